@@ -1,0 +1,5 @@
+pub mod Faults
+pub mod Devices
+pub mod Classes
+pub mod MemorySource
+pub mod MemorySink

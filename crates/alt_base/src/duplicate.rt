@@ -1,0 +1,35 @@
+ghost use Rattle.std.specs.Prelude.{◌≡◌, IfOk};
+
+use crate::NoMemory;
+use std::alloc::Global;
+
+/// A value that can be made again, by taking memory.
+pub trait Duplicate: Drop {
+    /// A value equal to its source.
+    fn copy(&self, alloc: Global) -> Result<Self, NoMemory>
+        ensures { IfOk result (λ twin. twin ≡ self.now) };
+}
+
+impl Duplicate for u8 {
+    fn copy(&self, alloc: Global) -> Result<Self, NoMemory> {
+        Ok(*self)
+    }
+}
+
+impl Duplicate for u16 {
+    fn copy(&self, alloc: Global) -> Result<Self, NoMemory> {
+        Ok(*self)
+    }
+}
+
+impl Duplicate for u32 {
+    fn copy(&self, alloc: Global) -> Result<Self, NoMemory> {
+        Ok(*self)
+    }
+}
+
+impl Duplicate for u64 {
+    fn copy(&self, alloc: Global) -> Result<Self, NoMemory> {
+        Ok(*self)
+    }
+}
