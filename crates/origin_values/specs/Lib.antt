@@ -1,0 +1,2 @@
+pub mod DefaultPort
+pub mod Equality

@@ -1,0 +1,18 @@
+//! Hosts, addresses and origins: their values, when two are one, and their texts.
+#![tactic(auto)]
+
+mod address;
+mod host;
+mod laws;
+mod origin;
+mod proto;
+mod protos;
+mod scheme;
+
+pub use address::{Addr, same_address};
+pub use host::{Host, same_host};
+pub use laws::one_value_where_equal;
+pub use origin::{Origin, same_origin};
+pub use proto::{Proto, same_proto};
+pub use protos::Protos;
+pub use scheme::{Scheme, default_port};
