@@ -1,0 +1,10 @@
+pub mod Journal
+pub mod Attempts
+pub mod Requests
+pub mod Connections
+pub mod Authority
+pub mod Routes
+pub mod Dispatch
+pub mod Step
+pub mod Headline
+pub mod WorkedHistories

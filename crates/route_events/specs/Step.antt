@@ -1,0 +1,78 @@
+-- Steps and runs.
+use Rattle.std.specs.Prelude.{◌≡◌, ℕ, Bool, true, false, nat_eq, nat_lt, nat_le, List, [], ◌∷◌, ◌++◌, map, Option, Some, None, is_some, if◌then◌else◌}
+use Rattle.route_events.specs.declared.fact.Fact.{Fact}
+use Rattle.route_events.specs.declared.fact.Fact.TheVariants as fact
+use Rattle.route_events.specs.declared.action.Action.{Action}
+use Rattle.route_events.specs.declared.action.Action.TheVariants as action
+use Rattle.route_events.specs.declared.refusal.StepRefusal.{StepRefusal}
+use Rattle.route_events.specs.declared.refusal.StepRefusal.TheVariants.{Spent, TimeBack, NumberNotAbove, NoSuchAttempt, NoSuchConn}
+use Rattle.route_events.specs.declared.request.Request.{Request}
+use Rattle.route_events.specs.Journal.{Entry, Happened, Taken, Journal, step_count, newest_moment}
+use Rattle.route_events.specs.Attempts.{is_pending}
+use Rattle.route_events.specs.Requests.{newest_number, waiting}
+use Rattle.route_events.specs.Connections.{is_open_number, outstanding}
+use Rattle.route_events.specs.Dispatch.{dispatch}
+
+-- why a fact isn't taken, by the fact alone
+abbrev pub fact_refusal : Journal → Fact → Option StepRefusal
+fact_refusal journal (fact.Request number origin) = if nat_le number (newest_number journal) then Some (NumberNotAbove (newest_number journal)) else None
+fact_refusal journal (fact.Opened attempt proto addr port names) = if is_pending journal attempt then None else Some NoSuchAttempt
+fact_refusal journal (fact.Failed attempt) = if is_pending journal attempt then None else Some NoSuchAttempt
+fact_refusal journal (fact.Closed conn) = if is_open_number journal conn then None else Some NoSuchConn
+fact_refusal journal fact.Tick = None
+
+-- the first reason why a step isn't taken: too many steps, a moment that goes back, the fact
+abbrev pub refusal : Journal → ℕ → Fact → Option StepRefusal
+refusal journal now fact =
+    if nat_eq (step_count journal) 16777215 then Some (Spent (step_count journal))
+    else (if nat_lt now (newest_moment journal) then Some (TimeBack (record { 0 = newest_moment journal }))
+    else fact_refusal journal fact)
+
+-- actions in order, as the newest entries
+abbrev pub with_actions : Journal → List Action → Journal
+with_actions journal [] = journal
+with_actions journal (a ∷ as') = with_actions (Taken a ∷ journal) as'
+
+-- the effect of a fact, in the journal below it: what was outstanding on a connection that ends is lost
+abbrev pub effects : Journal → Fact → List Action
+effects older (fact.Closed conn) = map action.Lost (outstanding older conn)
+effects older _ = []
+
+-- each waiting request is dispatched once, in the order of arrival, each in the journal so far
+abbrev pub settle : Journal → ℕ → List Request → Journal
+settle journal now [] = journal
+settle journal now (q ∷ qs) = settle (with_actions journal (dispatch journal q now)) now qs
+
+abbrev pub settled : Journal → ℕ → Journal
+settled journal now = settle journal now (waiting journal)
+
+-- the journal with a fact and its effect
+abbrev pub with_fact : Journal → ℕ → Fact → Journal
+with_fact journal now fact = with_actions (Happened now fact true ∷ journal) (effects journal fact)
+
+-- the journal after a step
+abbrev pub step : Journal → ℕ → Fact → Journal
+step journal now fact = settled (with_fact journal now fact) now
+
+-- the actions of the newest step, in order
+abbrev pub newest_actions : Journal → List Action
+newest_actions [] = []
+newest_actions (Happened moment fact true ∷ older) = []
+newest_actions (Happened moment fact false ∷ older) = newest_actions older
+newest_actions (Taken a ∷ older) = newest_actions older ++ a ∷ []
+
+-- all actions, in order
+abbrev pub actions : Journal → List Action
+actions [] = []
+actions (Happened moment fact handed_in ∷ older) = actions older
+actions (Taken a ∷ older) = actions older ++ a ∷ []
+
+-- the journal after some facts with their moments, up to the first that is refused
+abbrev pub run : Journal → List (ℕ × Fact) → Journal
+run journal [] = journal
+run journal (event ∷ events) = if is_some (refusal journal event.0 event.1) then journal else run (step journal event.0 event.1) events
+
+-- the journals that a run gives
+pub data IsRun : Journal → Type 0 where
+  Begun : IsRun []
+  Stepped : (journal : Journal) (now : ℕ) (fact : Fact) → IsRun journal → refusal journal now fact ≡ None → IsRun (step journal now fact)

@@ -1,0 +1,62 @@
+use crate::Route;
+use alt_base::{Duplicate, ListOf, NoMemory};
+use origin_values::{Host, Origin};
+use std::alloc::Global;
+
+/// What the client does.
+#[derive(Debug, PartialEq, Eq, Drop)]
+pub enum Action {
+    /// An attempt starts for an origin by a route. Attempts are numbered from 1 in the order of these actions.
+    OpenTo {
+        attempt: u64,
+        origin: Origin,
+        route: Route,
+    },
+    /// A request is sent on a connection, on a stream where that is one of HTTP/2 (RFC 9113 5.1.1). Where an
+    /// alternative carries it, its host and port are told to the server (RFC 7838 5).
+    SendOn {
+        request: u32,
+        conn: u64,
+        stream: Option<u32>,
+        alt_used: Option<(Host, u16)>,
+    },
+    /// A request is refused: there is no way to its origin.
+    Refuse { request: u32 },
+    /// A request was outstanding on a connection that ended.
+    Lost { request: u32 },
+}
+
+/// Actions in order.
+pub type Actions = ListOf<Action>;
+
+impl Duplicate for Action {
+    fn copy(&self, alloc: Global) -> Result<Self, NoMemory> {
+        match self {
+            Action::OpenTo {
+                attempt,
+                origin,
+                route,
+            } => Ok(Action::OpenTo {
+                attempt: *attempt,
+                origin: origin.copy(alloc)?,
+                route: *route,
+            }),
+            Action::SendOn {
+                request,
+                conn,
+                stream,
+                alt_used,
+            } => Ok(Action::SendOn {
+                request: *request,
+                conn: *conn,
+                stream: *stream,
+                alt_used: match alt_used {
+                    None => None,
+                    Some((host, port)) => Some((host.copy(alloc)?, *port)),
+                },
+            }),
+            Action::Refuse { request } => Ok(Action::Refuse { request: *request }),
+            Action::Lost { request } => Ok(Action::Lost { request: *request }),
+        }
+    }
+}

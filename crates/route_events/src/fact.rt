@@ -1,0 +1,53 @@
+use alt_base::{Duplicate, NoMemory};
+use coalescing::CertNames;
+use origin_values::{Addr, Origin, Proto};
+use std::alloc::Global;
+
+/// What happened.
+#[derive(Debug, PartialEq, Eq, Drop)]
+pub enum Fact {
+    /// A request arrives. Its number is above those of all requests before it.
+    Request { number: u32, origin: Origin },
+    /// An attempt ended with a connection: the negotiated protocol, the remote address and port, and the names of the
+    /// certificate.
+    Opened {
+        attempt: u64,
+        proto: Proto,
+        addr: Addr,
+        port: u16,
+        names: CertNames,
+    },
+    /// An attempt ended without a connection.
+    Failed { attempt: u64 },
+    /// A connection ended.
+    Closed { conn: u64 },
+    /// Nothing but that time has come this far.
+    Tick,
+}
+
+impl Duplicate for Fact {
+    fn copy(&self, alloc: Global) -> Result<Self, NoMemory> {
+        match self {
+            Fact::Request { number, origin } => Ok(Fact::Request {
+                number: *number,
+                origin: origin.copy(alloc)?,
+            }),
+            Fact::Opened {
+                attempt,
+                proto,
+                addr,
+                port,
+                names,
+            } => Ok(Fact::Opened {
+                attempt: *attempt,
+                proto: *proto,
+                addr: *addr,
+                port: *port,
+                names: names.copy(alloc)?,
+            }),
+            Fact::Failed { attempt } => Ok(Fact::Failed { attempt: *attempt }),
+            Fact::Closed { conn } => Ok(Fact::Closed { conn: *conn }),
+            Fact::Tick => Ok(Fact::Tick),
+        }
+    }
+}

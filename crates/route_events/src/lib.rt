@@ -1,0 +1,21 @@
+//! What a client is told and what it does, and the rules of the journal: the whole history of both, from which each
+//! question is answered.
+#![tactic(auto)]
+
+mod action;
+mod attempt;
+mod connection;
+mod fact;
+mod histories;
+mod refusal;
+mod request;
+mod route;
+
+pub use action::{Action, Actions};
+pub use attempt::Attempt;
+pub use connection::Connection;
+pub use fact::Fact;
+pub use histories::worked_histories;
+pub use refusal::StepRefusal;
+pub use request::Request;
+pub use route::{Route, same_route};
