@@ -1,0 +1,5 @@
+pub mod Lists
+pub mod Sound
+pub mod Quiet
+pub mod Settles
+pub mod Runs

@@ -21,9 +21,13 @@ pub enum Action {
         alt_used: Option<(Host, u16)>,
     },
     /// A request is refused: there is no way to its origin.
-    Refuse { request: u32 },
+    Refuse {
+        request: u32,
+    },
     /// A request was outstanding on a connection that ended.
-    Lost { request: u32 },
+    Lost {
+        request: u32,
+    },
 }
 
 /// Actions in order.

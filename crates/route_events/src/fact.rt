@@ -7,7 +7,10 @@ use std::alloc::Global;
 #[derive(Debug, PartialEq, Eq, Drop)]
 pub enum Fact {
     /// A request arrives. Its number is above those of all requests before it.
-    Request { number: u32, origin: Origin },
+    Request {
+        number: u32,
+        origin: Origin,
+    },
     /// An attempt ended with a connection: the negotiated protocol, the remote address and port, and the names of the
     /// certificate.
     Opened {
@@ -18,9 +21,13 @@ pub enum Fact {
         names: CertNames,
     },
     /// An attempt ended without a connection.
-    Failed { attempt: u64 },
+    Failed {
+        attempt: u64,
+    },
     /// A connection ended.
-    Closed { conn: u64 },
+    Closed {
+        conn: u64,
+    },
     /// Nothing but that time has come this far.
     Tick,
 }

@@ -12,5 +12,4 @@ pub fn worked_histories()
     ensures failed_attempt { actions (run [] failed_attempt) ≡ Action.OpenTo 1 site Route.Direct ∷ Action.Refuse 1 ∷ [] }
     ensures wrong_name { actions (run [] wrong_name) ≡ refused_then_opened }
     ensures two_schemes { actions (run [] two_schemes) ≡ one_each }
-{
-}
+{}

@@ -1,0 +1,96 @@
+-- The laws of all runs.
+use Rattle.std.proofs.Common.{◌≡◌, ℕ, Bool, true, false, cond, List, [], ◌∷◌, ◌++◌, map, Option, Some, None, is_some, All, refl, sym, ◌∙◌, subst}
+use Rattle.route_events.specs.declared.fact.Fact.{Fact}
+use Rattle.route_events.specs.declared.fact.Fact.TheVariants.{Closed, Tick}
+use Rattle.route_events.specs.declared.action.Action.{Action}
+use Rattle.route_events.specs.declared.action.Action.TheVariants.{Lost}
+use Rattle.route_events.specs.declared.refusal.StepRefusal.{StepRefusal}
+use Rattle.route_events.specs.declared.request.Request.{Request}
+use Rattle.route_events.specs.Journal.{Happened, Taken, Journal, newest_moment}
+use Rattle.route_events.specs.Requests.{requests, standing, waits, waiting}
+use Rattle.route_events.specs.Connections.{outstanding}
+use Rattle.route_events.specs.Dispatch.{dispatch}
+use Rattle.route_events.specs.Step.{IsRun, Begun, Stepped, refusal, settled, step, run, effects, with_actions, with_fact}
+use Rattle.route_events.specs.Headline.{MayWait, IsAllowed, EachAction}
+use Rattle.route_events.proofs.Lists.{IsIn, in_filter, filter_in, apart_filter, all_from_in}
+use Rattle.route_events.proofs.Sound.{Sound, sound_begun, sound_fact}
+use Rattle.route_events.proofs.Quiet.{rests_still, quiet_tick}
+use Rattle.route_events.proofs.Settles.{Settles, settles, settle_nothing, may_wait, AreEffects, effected}
+
+-- what holds after each step
+pub record IsSettled (journal : Journal) : Type 0 where
+  pub sound : Sound journal
+  pub allowed : EachAction IsAllowed journal
+  pub rests : (q : Request) → IsIn q (waiting journal) → dispatch journal q (newest_moment journal) ≡ []
+
+begun : IsSettled []
+begun = record { sound = sound_begun; allowed = tt; rests = λ q none. absurd none }
+
+pub waiting_in : (j : Journal) (q : Request) → IsIn q (waiting j) → IsIn q (requests j) × (waits (standing j q.number) ≡ true)
+waiting_in j q found = in_filter (λ (r : Request). waits (standing j r.number)) q (requests j) found
+
+pub all_settled : (j : Journal) (now : ℕ) → Sound j → newest_moment j ≡ now → Settles j (settled j now) now (waiting j)
+all_settled j now sound moment = settles j now (waiting j) sound moment
+    (apart_filter (λ (r : Request). r.number) (λ (r : Request). waits (standing j r.number)) (requests j) sound.requests_apart)
+    (waiting_in j)
+
+-- a journal with a fact and its effect, once it is settled
+settled_is : (j : Journal) (now : ℕ) → Sound j → EachAction IsAllowed j → newest_moment j ≡ now → IsSettled (settled j now)
+settled_is j now sound allowed moment =
+    let k : Journal = settled j now in
+    let all : Settles j k now (waiting j) = all_settled j now sound moment in
+    record {
+      sound = all.sound;
+      allowed = all.allowed allowed;
+      rests = λ q found.
+          let still = waiting_in k q found in
+          subst (λ t. dispatch k q t ≡ []) (sym (all.quiet.moment_same ∙ moment))
+          (all.done q (filter_in (λ (r : Request). waits (standing j r.number)) q (requests j) (subst (IsIn q) all.quiet.requests_same still.0) (all.fewer q.number still.1)) still.1);
+    }
+
+are_lost : (qs : List ℕ) → AreEffects (map Lost qs)
+are_lost [] = tt
+are_lost (q ∷ qs) = (tt, are_lost qs)
+
+pub are_effects : (j : Journal) (fact : Fact) → AreEffects (effects j fact)
+are_effects j (Closed conn) = are_lost (outstanding j conn)
+are_effects j _ = tt
+
+step_is : (j : Journal) (now : ℕ) (fact : Fact) → refusal j now fact ≡ None → IsSettled j → IsSettled (step j now fact)
+step_is j now fact free was =
+    let done = effected (Happened now fact true ∷ j) (effects j fact) (are_effects j fact) in
+    settled_is (with_fact j now fact) now (done.sound (sound_fact j now fact free was.sound)) (done.allowed was.allowed) done.moment
+
+pub each : {j : Journal} → IsRun j → IsSettled j
+each Begun = begun
+each (Stepped j now fact was free) = step_is j now fact free (each was)
+
+-- a run over facts gives such a journal
+pub run_gives : (j : Journal) (es : List (ℕ × Fact)) → IsRun j → IsRun (run j es)
+run_gives j [] was = was
+run_gives j (e ∷ es) was = by_refusal (refusal j e.0 e.1) refl (λ free. run_gives (step j e.0 e.1) es (Stepped j e.0 e.1 was free))
+  where
+    by_refusal : (w : Option StepRefusal) → refusal j e.0 e.1 ≡ w → (w ≡ None → IsRun (run (step j e.0 e.1) es)) → IsRun (cond (is_some w) j (run (step j e.0 e.1) es))
+    by_refusal None is rest = rest refl
+    by_refusal (Some reason) is rest = was
+
+-- what holds of each action holds at each split
+pub at_split : (P : Journal → Action → Type 0) (newer before : Journal) (a : Action) → EachAction P (newer ++ Taken a ∷ before) → P before a
+at_split P [] before a h = h.0
+at_split P (Happened now fact handed_in ∷ newer) before a h = at_split P newer before a h
+at_split P (Taken b ∷ newer) before a h = at_split P newer before a h.1
+
+pub allowed_at : (j newer before : Journal) (a : Action) → IsRun j → j ≡ newer ++ Taken a ∷ before → IsAllowed before a
+allowed_at j newer before a is e = at_split IsAllowed newer before a (subst (EachAction IsAllowed) e (each is).allowed)
+
+pub all_wait : (j : Journal) → IsRun j → All (MayWait j) (waiting j)
+all_wait j is = all_from_in (MayWait j) (waiting j) (λ q found. may_wait j q ((each is).rests q found))
+
+pub settled_again : (j : Journal) → IsRun j → settled j (newest_moment j) ≡ j
+settled_again j is = settle_nothing j (newest_moment j) (waiting j) (each is).rests
+
+-- a tick at the moment of the newest step writes nothing
+pub tick_nothing : (j : Journal) → IsRun j → step j (newest_moment j) Tick ≡ Happened (newest_moment j) Tick true ∷ j
+tick_nothing j is =
+    settle_nothing (Happened (newest_moment j) Tick true ∷ j) (newest_moment j) (waiting j)
+    (λ q found. rests_still j (Happened (newest_moment j) Tick true ∷ j) (newest_moment j) q (quiet_tick j) ((each is).rests q found))

@@ -1,0 +1,305 @@
+-- What numbers mean in each journal of a run: attempts are counted, requests and connections have numbers of their
+-- own, and what is outstanding stands where it was sent.
+use Rattle.std.proofs.Common.{◌≡◌, ◌⊎◌, inl, inr, ℕ, ◌+◌, ◌<◌, ◌≤◌, Bool, true, false, cond, not, ◌&&◌, ◌||◌, nat_eq, nat_lt, nat_le, List, [], ◌∷◌, ◌++◌, length, Option, Some, None, is_some, filter, find, refl, ap, sym, ◌∙◌, subst, arith, true≢false}
+use Rattle.std.specs.Option.{option_map, option_map_or}
+use Rattle.std.proofs.lemmas.List.{length-append}
+use Rattle.coalescing.specs.declared.cert_name.CertName.{CertName}
+use Rattle.origin_values.specs.declared.origin.Origin.{Origin}
+use Rattle.origin_values.specs.declared.host.Host.{Host}
+use Rattle.origin_values.specs.declared.proto.Proto.{Proto}
+use Rattle.origin_values.specs.declared.address.Addr.{Addr}
+use Rattle.route_events.specs.declared.fact.Fact.{Fact}
+use Rattle.route_events.specs.declared.fact.Fact.TheVariants as fact
+use Rattle.route_events.specs.declared.action.Action.TheVariants.{OpenTo, SendOn, Refuse, Lost}
+use Rattle.route_events.specs.declared.route.Route.{Route}
+use Rattle.route_events.specs.declared.request.Request.{Request}
+use Rattle.route_events.specs.declared.attempt.Attempt.{Attempt}
+use Rattle.route_events.specs.declared.connection.Connection.{Connection}
+use Rattle.route_events.specs.declared.refusal.StepRefusal.{StepRefusal}
+use Rattle.route_events.specs.declared.refusal.StepRefusal.TheVariants.{NumberNotAbove, NoSuchAttempt, NoSuchConn}
+use Rattle.route_events.specs.Journal.{Happened, Taken, Journal, newest_moment, step_count, with_end}
+use Rattle.route_events.specs.Attempts.{attempts, has_ended, pending, pending_attempt, is_pending}
+use Rattle.route_events.specs.Requests.{Standing, Waits, OutOn, Over, requests, newest_number, standing, waits}
+use Rattle.route_events.specs.Connections.{connections, is_open_number, outstanding, send_count, without}
+use Rattle.route_events.specs.Step.{refusal}
+use Rattle.route_events.proofs.Lists.{IsIn, AreApart, contradicts, same_number, nat_eq-self, nat_eq-below, in_append_one, apart_append_one, in_filter, find_in, or_right, not_true}
+
+pub record Sound (journal : Journal) : Type 0 where
+  -- an attempt's number is among those that are counted, and no other one has ended
+  pub counted : (a : Attempt) → IsIn a (attempts journal) → a.number ≤ length (attempts journal)
+  pub not_ended : (n : ℕ) → length (attempts journal) < n → has_ended journal n ≡ false
+  pub attempts_apart : AreApart (λ (a : Attempt). a.number) (attempts journal)
+  pub requests_apart : AreApart (λ (q : Request). q.number) (requests journal)
+  pub newest : (q : Request) → IsIn q (requests journal) → q.number ≤ newest_number journal
+  pub connections_apart : AreApart (λ (c : Connection). c.number) (connections journal)
+  -- the attempt of a connection has ended
+  pub ended : (c : Connection) → IsIn c (connections journal) → has_ended journal c.number ≡ true
+  -- what is outstanding on a connection was sent there last, and is the number of a request
+  pub out_stands : (conn q : ℕ) → IsIn q (outstanding journal conn) → standing journal q ≡ Some (OutOn conn)
+  pub out_known : (conn q : ℕ) → IsIn q (outstanding journal conn) → q ≤ newest_number journal
+  -- nothing was sent where no attempt has ended
+  pub unused : (n : ℕ) → has_ended journal n ≡ false → (outstanding journal n ≡ []) × (send_count journal n ≡ 0)
+
+pub sound_begun : Sound []
+sound_begun = record {
+  counted = λ a none. absurd none;
+  not_ended = λ n more. refl;
+  attempts_apart = tt;
+  requests_apart = tt;
+  newest = λ q none. absurd none;
+  connections_apart = tt;
+  ended = λ c none. absurd none;
+  out_stands = λ conn q none. absurd none;
+  out_known = λ conn q none. absurd none;
+  unused = λ n h. (refl, refl);
+}
+
+-- actions
+
+-- a request that waited moves, and what is outstanding stays where it is
+stays_out : (j : Journal) (q conn r : ℕ) (to : Standing) → waits (standing j q) ≡ true → standing j r ≡ Some (OutOn conn) → option_map_or Some (cond (nat_eq q r) (Some to) None) (standing j r) ≡ Some (OutOn conn)
+stays_out j q conn r to waiting out = by_test (nat_eq q r) refl
+  where
+    by_test : (b : Bool) → nat_eq q r ≡ b → option_map_or Some (cond b (Some to) None) (standing j r) ≡ Some (OutOn conn)
+    by_test false e = out
+    by_test true e = contradicts (waits (standing j q)) waiting (ap waits (ap (standing j) (same_number q r e) ∙ out))
+
+pub sound_send : (j : Journal) (q c : ℕ) (s : Option ℕ) (u : Option (Host × ℕ)) → waits (standing j q) ≡ true → q ≤ newest_number j → has_ended j c ≡ true → Sound j → Sound (Taken (SendOn q c s u) ∷ j)
+sound_send j q c s u waiting known used sound = record {
+  counted = sound.counted;
+  not_ended = sound.not_ended;
+  attempts_apart = sound.attempts_apart;
+  requests_apart = sound.requests_apart;
+  newest = sound.newest;
+  connections_apart = sound.connections_apart;
+  ended = sound.ended;
+  out_stands = λ conn r found. by_conn conn r (nat_eq c conn) refl found;
+  out_known = λ conn r found. known_by_conn conn r (nat_eq c conn) found;
+  unused = λ n h. (out_by_conn n h (nat_eq c n) refl, sends_by_conn n h (nat_eq c n) refl);
+}
+  where
+    by_place : (conn r : ℕ) → nat_eq c conn ≡ true → IsIn r (outstanding j conn) ⊎ (r ≡ q) → option_map_or Some (cond (nat_eq q r) (Some (OutOn c)) None) (standing j r) ≡ Some (OutOn conn)
+    by_place conn r e (inl old) = stays_out j q conn r (OutOn c) waiting (sound.out_stands conn r old)
+    by_place conn r e (inr new) = rw (new, nat_eq-self q, same_number c conn e) refl
+
+    by_conn : (conn r : ℕ) (b : Bool) → nat_eq c conn ≡ b → IsIn r (cond b (outstanding j conn ++ q ∷ []) (outstanding j conn)) → option_map_or Some (cond (nat_eq q r) (Some (OutOn c)) None) (standing j r) ≡ Some (OutOn conn)
+    by_conn conn r false e found = stays_out j q conn r (OutOn c) waiting (sound.out_stands conn r found)
+    by_conn conn r true e found = by_place conn r e (in_append_one r q (outstanding j conn) found)
+
+    known_by_place : (conn r : ℕ) → IsIn r (outstanding j conn) ⊎ (r ≡ q) → r ≤ newest_number j
+    known_by_place conn r (inl old) = sound.out_known conn r old
+    known_by_place conn r (inr new) = omega (arith, new, known)
+
+    known_by_conn : (conn r : ℕ) (b : Bool) → IsIn r (cond b (outstanding j conn ++ q ∷ []) (outstanding j conn)) → r ≤ newest_number j
+    known_by_conn conn r false found = sound.out_known conn r found
+    known_by_conn conn r true found = known_by_place conn r (in_append_one r q (outstanding j conn) found)
+
+    out_by_conn : (n : ℕ) → has_ended j n ≡ false → (b : Bool) → nat_eq c n ≡ b → cond b (outstanding j n ++ q ∷ []) (outstanding j n) ≡ []
+    out_by_conn n h false e = (sound.unused n h).0
+    out_by_conn n h true e = contradicts (has_ended j c) used (ap (has_ended j) (same_number c n e) ∙ h)
+
+    sends_by_conn : (n : ℕ) → has_ended j n ≡ false → (b : Bool) → nat_eq c n ≡ b → cond b (send_count j n + 1) (send_count j n) ≡ 0
+    sends_by_conn n h false e = (sound.unused n h).1
+    sends_by_conn n h true e = contradicts (has_ended j c) used (ap (has_ended j) (same_number c n e) ∙ h)
+
+pub sound_refuse : (j : Journal) (q : ℕ) → waits (standing j q) ≡ true → Sound j → Sound (Taken (Refuse q) ∷ j)
+sound_refuse j q waiting sound = record {
+  counted = sound.counted;
+  not_ended = sound.not_ended;
+  attempts_apart = sound.attempts_apart;
+  requests_apart = sound.requests_apart;
+  newest = sound.newest;
+  connections_apart = sound.connections_apart;
+  ended = sound.ended;
+  out_stands = λ conn r found. stays_out j q conn r Over waiting (sound.out_stands conn r found);
+  out_known = sound.out_known;
+  unused = sound.unused;
+}
+
+pub sound_open : (j : Journal) (o : Origin) (r : Route) → Sound j → Sound (Taken (OpenTo (length (attempts j) + 1) o r) ∷ j)
+sound_open j o r sound =
+    let more : length (attempts j ++ a ∷ []) ≡ length (attempts j) + 1 = length-append (attempts j) (a ∷ []) in
+    record {
+      counted = λ b found. by_place b (in_append_one b a (attempts j) found);
+      not_ended = λ n above. sound.not_ended n (omega (arith, above, more));
+      attempts_apart = apart_append_one (λ (a : Attempt). a.number) (attempts j) a sound.attempts_apart (λ b found. nat_eq-below b.number (length (attempts j) + 1) (omega (arith, sound.counted b found)));
+      requests_apart = sound.requests_apart;
+      newest = sound.newest;
+      connections_apart = sound.connections_apart;
+      ended = sound.ended;
+      out_stands = sound.out_stands;
+      out_known = sound.out_known;
+      unused = sound.unused;
+    }
+  where
+    a : Attempt
+    a = record { number = length (attempts j) + 1; origin = o; route = r }
+
+    by_place : (b : Attempt) → IsIn b (attempts j) ⊎ (b ≡ a) → b.number ≤ length (attempts j ++ a ∷ [])
+    by_place b (inl old) = omega (arith, sound.counted b old, length-append (attempts j) (a ∷ []))
+    by_place b (inr new) = omega (arith, ap (λ (x : Attempt). x.number) new, length-append (attempts j) (a ∷ []))
+
+pub sound_lost : (j : Journal) (q : ℕ) → Sound j → Sound (Taken (Lost q) ∷ j)
+sound_lost j q sound = record {
+  counted = sound.counted;
+  not_ended = sound.not_ended;
+  attempts_apart = sound.attempts_apart;
+  requests_apart = sound.requests_apart;
+  newest = sound.newest;
+  connections_apart = sound.connections_apart;
+  ended = sound.ended;
+  out_stands = λ conn r found.
+      let still = in_filter (λ n. not (nat_eq n q)) r (outstanding j conn) found in
+      by_test conn r (nat_eq q r) (nat_eq-flipped q r ∙ not_true (nat_eq r q) still.1) (sound.out_stands conn r still.0);
+  out_known = λ conn r found. sound.out_known conn r (in_filter (λ n. not (nat_eq n q)) r (outstanding j conn) found).0;
+  unused = λ n h. (ap (without q) (sound.unused n h).0, (sound.unused n h).1);
+}
+  where
+    nat_eq-flipped : (a b : ℕ) → nat_eq a b ≡ nat_eq b a
+    nat_eq-flipped a b = grind arith
+
+    by_test : (conn r : ℕ) (b : Bool) → b ≡ false → standing j r ≡ Some (OutOn conn) → option_map_or Some (cond b (Some Over) None) (standing j r) ≡ Some (OutOn conn)
+    by_test conn r false e out = out
+    by_test conn r true e out = absurd (true≢false e)
+
+-- facts
+
+-- what a fact that isn't refused meets
+not_earlier : (b : Bool) (reason : StepRefusal) (other : Option StepRefusal) → cond b (Some reason) other ≡ None → other ≡ None
+not_earlier true reason other free = absurd (true≢false (ap is_some free))
+not_earlier false reason other free = free
+
+pub above_newest : (j : Journal) (now n : ℕ) (o : Origin) → refusal j now (fact.Request n o) ≡ None → newest_number j < n
+above_newest j now n o free =
+    by_test (nat_le n (newest_number j)) refl (not_earlier (nat_lt now (newest_moment j)) _ _ (not_earlier (nat_eq (step_count j) 16777215) _ _ free))
+  where
+    by_test : (b : Bool) → nat_le n (newest_number j) ≡ b → cond b (Some (NumberNotAbove (newest_number j))) None ≡ None → newest_number j < n
+    by_test true e free = absurd (true≢false (ap is_some free))
+    by_test false e free = grind arith
+
+taken_where : (b : Bool) (reason : StepRefusal) → cond b None (Some reason) ≡ None → b ≡ true
+taken_where true reason e = refl
+taken_where false reason e = absurd (true≢false (ap is_some e))
+
+pub opened_pending : (j : Journal) (now m : ℕ) (p : Proto) (d : Addr) (port : ℕ) (names : List CertName) → refusal j now (fact.Opened m p d port names) ≡ None → is_pending j m ≡ true
+opened_pending j now m p d port names free = taken_where (is_pending j m) NoSuchAttempt (not_earlier (nat_lt now (newest_moment j)) _ _ (not_earlier (nat_eq (step_count j) 16777215) _ _ free))
+
+pub failed_pending : (j : Journal) (now m : ℕ) → refusal j now (fact.Failed m) ≡ None → is_pending j m ≡ true
+failed_pending j now m free = taken_where (is_pending j m) NoSuchAttempt (not_earlier (nat_lt now (newest_moment j)) _ _ (not_earlier (nat_eq (step_count j) 16777215) _ _ free))
+
+pub closed_open : (j : Journal) (now c : ℕ) → refusal j now (fact.Closed c) ≡ None → is_open_number j c ≡ true
+closed_open j now c free = taken_where (is_open_number j c) NoSuchConn (not_earlier (nat_lt now (newest_moment j)) _ _ (not_earlier (nat_eq (step_count j) 16777215) _ _ free))
+
+pub sound_request : (j : Journal) (now n : ℕ) (o : Origin) (handed_in : Bool) → newest_number j < n → Sound j → Sound (Happened now (fact.Request n o) handed_in ∷ j)
+sound_request j now n o handed_in above sound =
+    record {
+      counted = sound.counted;
+      not_ended = sound.not_ended;
+      attempts_apart = sound.attempts_apart;
+      requests_apart = apart_append_one (λ (r : Request). r.number) (requests j) q sound.requests_apart (λ r found. nat_eq-below r.number n (omega (arith, above, sound.newest r found)));
+      newest = λ r found. by_place r (in_append_one r q (requests j) found);
+      connections_apart = sound.connections_apart;
+      ended = sound.ended;
+      out_stands = λ conn r found. rw (other n r (omega (arith, above, sound.out_known conn r found))) (sound.out_stands conn r found);
+      out_known = λ conn r found. omega (arith, above, sound.out_known conn r found);
+      unused = sound.unused;
+    }
+  where
+    q : Request
+    q = record { number = n; origin = o }
+
+    other : (n r : ℕ) → r < n → nat_eq n r ≡ false
+    other n r below = grind arith
+
+    by_place : (r : Request) → IsIn r (requests j) ⊎ (r ≡ record { number = n; origin = o }) → r.number ≤ n
+    by_place r (inl old) = omega (arith, above, sound.newest r old)
+    by_place r (inr new) = omega (arith, ap (λ (x : Request). x.number) new)
+
+or_false : (a b : Bool) → (a || b) ≡ false → b ≡ false
+or_false true b e = absurd (true≢false e)
+or_false false b e = e
+
+-- a pending attempt was started, and hasn't ended
+pub record IsStarted (j : Journal) (m : ℕ) : Type 0 where
+  pub attempt : Attempt
+  pub found : pending_attempt j m ≡ Some attempt
+  pub started : IsIn attempt (attempts j)
+  pub numbered : attempt.number ≡ m
+  pub going : has_ended j m ≡ false
+
+pub started_of : (j : Journal) (m : ℕ) → is_pending j m ≡ true → IsStarted j m
+started_of j m pend = by_found (pending_attempt j m) refl pend
+  where
+    by_found : (w : Option Attempt) → pending_attempt j m ≡ w → is_some w ≡ true → IsStarted j m
+    by_found None e some = absurd (true≢false (sym some))
+    by_found (Some a) e some =
+        let there = find_in (λ (a : Attempt). nat_eq a.number m) (pending j) a e in
+        let passed = in_filter (λ (a : Attempt). not (has_ended j a.number)) a (attempts j) there.0 in
+        let same : a.number ≡ m = same_number a.number m there.1 in
+        record { attempt = a; found = e; started = passed.0; numbered = same; going = subst (λ n. has_ended j n ≡ false) same (not_true (has_ended j a.number) passed.1) }
+
+-- an attempt that is pending is counted
+above_other : (j : Journal) (m : ℕ) → IsStarted j m → Sound j → (n : ℕ) → length (attempts j) < n → (nat_eq m n || has_ended j n) ≡ false
+above_other j m is sound n above = rw (below m n (omega (arith, above, sound.counted is.attempt is.started, is.numbered))) (sound.not_ended n above)
+  where
+    below : (m n : ℕ) → m < n → nat_eq m n ≡ false
+    below m n h = nat_eq-below m n h
+
+pub sound_failed : (j : Journal) (now m : ℕ) (handed_in : Bool) → is_pending j m ≡ true → Sound j → Sound (Happened now (fact.Failed m) handed_in ∷ j)
+sound_failed j now m handed_in pend sound = record {
+  counted = sound.counted;
+  not_ended = λ n above. above_other j m (started_of j m pend) sound n above;
+  attempts_apart = sound.attempts_apart;
+  requests_apart = sound.requests_apart;
+  newest = sound.newest;
+  connections_apart = sound.connections_apart;
+  ended = λ c found. or_right (nat_eq m c.number) (has_ended j c.number) (sound.ended c found);
+  out_stands = sound.out_stands;
+  out_known = sound.out_known;
+  unused = λ n h. sound.unused n (or_false (nat_eq m n) (has_ended j n) h);
+}
+
+pub sound_opened : (j : Journal) (now m : ℕ) (p : Proto) (d : Addr) (port : ℕ) (names : List CertName) (handed_in : Bool) → is_pending j m ≡ true → Sound j → Sound (Happened now (fact.Opened m p d port names) handed_in ∷ j)
+sound_opened j now m p d port names handed_in pend sound =
+    let made = by_attempt (pending_attempt j m) in
+    record {
+      counted = sound.counted;
+      not_ended = λ n above. above_other j m is sound n above;
+      attempts_apart = sound.attempts_apart;
+      requests_apart = sound.requests_apart;
+      newest = sound.newest;
+      connections_apart = made.0;
+      ended = made.1;
+      out_stands = sound.out_stands;
+      out_known = sound.out_known;
+      unused = λ n h. sound.unused n (or_false (nat_eq m n) (has_ended j n) h);
+    }
+  where
+    is : IsStarted j m
+    is = started_of j m pend
+
+    connection : Attempt → Connection
+    connection a = record { number = m; origin = a.origin; route = a.route; proto = p; addr = d; port = port; names = names }
+
+    other : (c : Connection) → IsIn c (connections j) → nat_eq c.number m ≡ false
+    other c found = by_test (nat_eq c.number m) refl
+      where
+        by_test : (b : Bool) → nat_eq c.number m ≡ b → b ≡ false
+        by_test false e = refl
+        by_test true e = contradicts (has_ended j m) (subst (λ k. has_ended j k ≡ true) (same_number c.number m e) (sound.ended c found)) is.going
+
+    by_place : (a : Attempt) (c : Connection) → IsIn c (connections j) ⊎ (c ≡ connection a) → (nat_eq m c.number || has_ended j c.number) ≡ true
+    by_place a c (inl old) = or_right (nat_eq m c.number) (has_ended j c.number) (sound.ended c old)
+    by_place a c (inr new) = subst (λ (x : Connection). (nat_eq m x.number || has_ended j x.number) ≡ true) (sym new) (rw (nat_eq-self m) refl)
+
+    by_attempt : (w : Option Attempt) → AreApart (λ (c : Connection). c.number) (with_end (connections j) (option_map connection w)) × ((c : Connection) → IsIn c (with_end (connections j) (option_map connection w)) → (nat_eq m c.number || has_ended j c.number) ≡ true)
+    by_attempt None = (sound.connections_apart, λ c found. or_right (nat_eq m c.number) (has_ended j c.number) (sound.ended c found))
+    by_attempt (Some a) = (apart_append_one (λ (c : Connection). c.number) (connections j) (connection a) sound.connections_apart other, λ c found. by_place a c (in_append_one c (connection a) (connections j) found))
+
+-- each fact that isn't refused
+pub sound_fact : (j : Journal) (now : ℕ) (fact : Fact) → refusal j now fact ≡ None → Sound j → Sound (Happened now fact true ∷ j)
+sound_fact j now (fact.Request n o) free sound = sound_request j now n o true (above_newest j now n o free) sound
+sound_fact j now (fact.Opened m p d port names) free sound = sound_opened j now m p d port names true (opened_pending j now m p d port names free) sound
+sound_fact j now (fact.Failed m) free sound = sound_failed j now m true (failed_pending j now m free) sound
+sound_fact j now (fact.Closed c) free sound = record { counted = sound.counted; not_ended = sound.not_ended; attempts_apart = sound.attempts_apart; requests_apart = sound.requests_apart; newest = sound.newest; connections_apart = sound.connections_apart; ended = sound.ended; out_stands = sound.out_stands; out_known = sound.out_known; unused = sound.unused }
+sound_fact j now fact.Tick free sound = record { counted = sound.counted; not_ended = sound.not_ended; attempts_apart = sound.attempts_apart; requests_apart = sound.requests_apart; newest = sound.newest; connections_apart = sound.connections_apart; ended = sound.ended; out_stands = sound.out_stands; out_known = sound.out_known; unused = sound.unused }
