@@ -1,0 +1,4 @@
+pub mod Frames
+pub mod Streams
+pub mod Reading
+pub mod Steps
