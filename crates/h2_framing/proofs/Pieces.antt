@@ -1,12 +1,12 @@
 -- What pieces bring one after the other, they bring joined.
-use Rattle.std.proofs.Common.{◌≡◌, ◌⊎◌, ℕ, List, [], ◌∷◌, ◌++◌, Option, Some, None, Result, Ok, Err, refl, ap, sym, ◌∙◌, subst, inl, inr}
+use Rattle.std.proofs.Common.{◌≡◌, ℕ, List, [], ◌∷◌, ◌++◌, Option, Some, None, Result, Ok, Err, refl, ap, sym, ◌∙◌, subst, inl, inr}
 use Rattle.std.proofs.lemmas.List.{append_assoc, append-nil}
 use Rattle.alt_base.specs.declared.refusal.NoMemory.{NoMemory}
 use Rattle.h2_framing.specs.declared.frame.Frame.{Frame}
 use Rattle.h2_framing.specs.declared.reader.FrameReader.{FrameReader}
 use Rattle.h2_framing.specs.declared.fed.Fed.{Fed}
 use Rattle.h2_framing.specs.declared.fed.Fed.TheVariants.{Going, TooLarge}
-use Rattle.h2_framing.specs.Streams.{split_of, frames_of, rest_of, too_large_of}
+use Rattle.h2_framing.specs.Streams.{split_of, frames_of, too_large_of}
 use Rattle.h2_framing.specs.Reading.{StandsFor, Brings, AnswersPiece, with_frames, joined, BringAll}
 use Rattle.h2_framing.proofs.Splitting.{stays_too_large}
 

@@ -22,5 +22,5 @@ step octets place n rest old now new frames head frame is inside so_far are read
 pub loop-place-preserved : goal.loop-place-preserved
 loop-place-preserved c =
     let i = c.loop-place.invariant in
-    step c.args.octets.now c.loop-place.place _ _ c.args.frames.now c.loop-place.frames c.push.new.self i.1 c.read_head-head.result c.in_ok-make_frame.field-0 (take_rest c.args.octets.now c.loop-place.place) i.0 i.2 i.3 c.read_head-head.ensures c.if-head-gt-LENGTH_LIMIT.false c.if-rest-end.false
+    step c.args.octets.now c.loop-place.place _ _ c.args.frames.now c.loop-place.frames c.push.new.self i.1 c.read_head-head.result c.in_ok-make_frame.field-0 (take_rest c.args.octets.now c.loop-place.place) i.0 i.2 i.3 c.read_head-head.ensures (omega (arith, c.if-head-gt-LENGTH_LIMIT.false)) c.if-rest-end.false
     (omega arith) c.in_ok-make_frame.ensures c.in_ok-push.ensures.ok

@@ -40,5 +40,5 @@ returns-in-Some c =
 pub returns-in-None : goal.returns-in-None
 returns-in-None c =
     let p = subst (λ (o : Option ℕ). ContinuesPayload o c.read_head-head.result c.fill_head.new.self c.continue_payload.new.self c.args.frames.now c.continue_payload.new.frames (take (length c.args.piece.now - c.in_ok-count.count) (drop c.in_ok-count.count c.args.piece.now))) c.in-None.is c.in_ok-more.ensures in
-    none_ends c.args.self.now c.fill_head.new.self c.continue_payload.new.self c.args.frames.now c.continue_payload.new.frames c.args.piece.now c.in_ok-count.count c.read_head-head.result c.in_ok-count.ensures (omega (arith, c.len.ensures, c.if-len-lt-HEAD_OCTETS.false)) (c.read_head-head.ensures ∙ ap head_of c.as_slice.ensures.value) c.if-head-gt-LENGTH_LIMIT.false
+    none_ends c.args.self.now c.fill_head.new.self c.continue_payload.new.self c.args.frames.now c.continue_payload.new.frames c.args.piece.now c.in_ok-count.count c.read_head-head.result c.in_ok-count.ensures (omega (arith, c.len.ensures, c.if-len-lt-HEAD_OCTETS.false)) (c.read_head-head.ensures ∙ ap head_of c.as_slice.ensures.value) (omega (arith, c.if-head-gt-LENGTH_LIMIT.false))
     (subst (λ (xs : List ℕ). ContinuesPayload None c.read_head-head.result c.fill_head.new.self c.continue_payload.new.self c.args.frames.now c.continue_payload.new.frames xs) (take_rest c.args.piece.now c.in_ok-count.count) p)

@@ -1,4 +1,4 @@
-use Rattle.std.proofs.Common.{◌≡◌, ℕ, length, ap, arith}
+use Rattle.std.proofs.Common.{length, ap, arith}
 use Rattle.h2_framing.specs.Streams.{rest_of}
 use Rattle.h2_framing.proofs.Holding.{held_few, held_size}
 use Rattle.h2_framing.proofs.Splitting.{rest_unfinished}
