@@ -1,2 +1,3 @@
 pub mod DefaultPort
 pub mod Equality
+pub mod Written
