@@ -1,3 +1,5 @@
 pub mod DefaultPort
 pub mod Equality
 pub mod Written
+pub mod HostGrammar
+pub mod HostReading

@@ -4,6 +4,7 @@
 mod address;
 mod host;
 mod laws;
+mod name;
 mod origin;
 mod proto;
 mod protos;
