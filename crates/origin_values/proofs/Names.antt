@@ -1,7 +1,12 @@
 -- The reading of a host's name against its grammar.
-use Rattle.std.proofs.Common.{◌≡◌, ℕ, suc, ◌+◌, Option, None, Some, map, append-nil, ap₂, ◌<◌, ◌≤◌, Bool, true, false, ◌&&◌, not, cond, nat_eq, nat_lt, nat_le, List, [], ◌∷◌, ◌++◌, length, refl, ap, sym, ◌∙◌, subst, arith}
+use Rattle.std.proofs.Common.{◌≡◌, ℕ, suc, ◌+◌, Option, None, Some, map, append-nil, append_assoc, decimal, ◌||◌, ap₂, ◌<◌, ◌≤◌, Bool, true, false, ◌&&◌, not, cond, nat_eq, nat_lt, nat_le, List, [], ◌∷◌, ◌++◌, length, refl, ap, sym, ◌∙◌, subst, arith}
 use Rattle.std.specs.List.{list_all, join_with_byte}
-use Rattle.std.specs.Char.{is_ascii_digit, to_ascii_lowercase}
+use Rattle.std.specs.Char.{is_ascii_digit, digit_value, to_ascii_lowercase}
+use Rattle.std.specs.Str.Parse.{AllDigits}
+use Rattle.std.specs.Net.Text.{dotted_text}
+use Rattle.std.specs.Net.Grammar.{IsDotted}
+use Rattle.std.proofs.lemmas.Str.Parse.{digit_from_value}
+use Rattle.std.proofs.lemmas.Fmt.{decimal_is_IsNumeral, length-decimal-le}
 use Rattle.alt_base.specs.Classes.{in_ranges, host_name_class}
 use Rattle.origin_values.specs.HostGrammar.{IsLabel, AreLabels, SpellsName}
 use Rattle.origin_values.specs.HostReading.{are_labels, is_name, read_name}
@@ -166,3 +171,59 @@ pub read_name_complete : (text name : List ℕ) → SpellsName text name → rea
 read_name_complete text name s =
     let labels : are_labels 0 true text ≡ true = ap (are_labels 0 true) s.spelled ∙ labels_read s.labels s.are_labels in
     rw (test_from_le (length text) 253 s.short, labels) (ap Some (sym s.value))
+
+-- what the reading of labels says of a name's text
+pub name_labels : (text name : List ℕ) → SpellsName text name → are_labels 0 true text ≡ true
+name_labels text name s = ap (are_labels 0 true) s.spelled ∙ labels_read s.labels s.are_labels
+
+or_left : (a b c : Bool) → b ≡ true → (a || (b || c)) ≡ true
+or_left true b c h = refl
+or_left false b c h = rw h refl
+
+and_from : (a b : Bool) → a ≡ true → b ≡ true → (a && b) ≡ true
+and_from a b h k = rw (h, k) refl
+
+digit_of_label : (c : ℕ) → digit_value c < 10 → (is_ascii_digit c ≡ true) × (of_label c ≡ true)
+digit_of_label c h =
+    let range = digit_from_value c h in
+    let within : (nat_le 48 c && nat_le c 57) ≡ true = and_from _ _ (test_from_le 48 c range.0) (test_from_le c 57 range.1) in
+    (within, or_left _ _ _ within)
+
+digits_of_label : (ds : List ℕ) → AllDigits 10 ds → (list_all is_ascii_digit ds ≡ true) × (list_all of_label ds ≡ true)
+digits_of_label [] h = (refl, refl)
+digits_of_label (c ∷ ds) h =
+    let first = digit_of_label c h.0 in
+    let rest = digits_of_label ds h.1 in
+    (and_from _ _ first.0 rest.0, and_from _ _ first.1 rest.1)
+
+and_false : (a b : Bool) → b ≡ false → (a && b) ≡ false
+and_false true b h = h
+and_false false b h = refl
+
+-- a decimal number of a byte before a dot, and at the end
+digits_at_dot : (n : ℕ) (rest : List ℕ) → n < 256 → are_labels 0 true rest ≡ false → are_labels 0 true (decimal n ++ 46 ∷ rest) ≡ false
+digits_at_dot n rest small h =
+    let digits = digits_of_label (decimal n) (decimal_is_IsNumeral n (omega arith)).0.1 in
+    let short = length-decimal-le 3 n (omega arith) (omega arith) (omega arith) in
+    through (decimal n) (46 ∷ rest) 0 true digits.1 (omega arith) ∙ and_false _ _ h
+
+digits_at_end : (n : ℕ) → n < 256 → are_labels 0 true (decimal n) ≡ false
+digits_at_end n small =
+    let digits = digits_of_label (decimal n) (decimal_is_IsNumeral n (omega arith)).0.1 in
+    let short = length-decimal-le 3 n (omega arith) (omega arith) (omega arith) in
+    ap (are_labels 0 true) (sym (append-nil (decimal n))) ∙ through (decimal n) [] 0 true digits.1 (omega arith)
+    ∙ and_false _ _ (ap not digits.0)
+
+dotted_assoc : (a b c d : ℕ) → dotted_text a b c d ≡ decimal a ++ 46 ∷ (decimal b ++ 46 ∷ (decimal c ++ 46 ∷ decimal d))
+dotted_assoc a b c d = simp append_assoc
+
+-- no text is an IPv4 address and a name
+pub no_v4_and_name : (text bytes name : List ℕ) → IsDotted text bytes → SpellsName text name → ⊥
+no_v4_and_name text bytes name four named =
+    let digits : are_labels 0 true text ≡ false =
+    ap (are_labels 0 true) (four.spelled ∙ dotted_assoc four.a four.b four.c four.d)
+    ∙ digits_at_dot four.a _ four.fit.0 (digits_at_dot four.b _ four.fit.1 (digits_at_dot four.c _ four.fit.2 (digits_at_end four.d four.fit.3))) in
+    true_false (sym (name_labels text name named) ∙ digits)
+  where
+    true_false : true ≡ false → ⊥
+    true_false e = cc

@@ -1,10 +1,12 @@
 -- The texts of addresses and hosts, each beside what it stands for, by how the text splits.
-use Rattle.std.specs.Prelude.{◌≡◌, ℕ, ◌<◌, ◌≤◌, Bool, true, false, List, [], ◌∷◌, ◌++◌, length, map, codes, nat_eq}
+use Rattle.std.specs.Prelude.{◌≡◌, ◌⊎◌, ℕ, ◌<◌, ◌≤◌, Bool, true, false, List, [], ◌∷◌, ◌++◌, length, map, codes, nat_eq}
 use Rattle.std.specs.List.{list_all, join_with_byte}
 use Rattle.std.specs.Char.{is_ascii_digit, to_ascii_lowercase}
 use Rattle.std.specs.Net.Addr.{octets_of}
 use Rattle.std.specs.Net.Grammar.{IsDotted, IsColonHex}
 use Rattle.alt_base.specs.Classes.{in_ranges, host_name_class}
+use Rattle.origin_values.specs.declared.refusal.HostRefusal.{HostRefusal}
+use Rattle.origin_values.specs.declared.refusal.HostRefusal.TheVariants.{BadHost}
 use Rattle.origin_values.specs.declared.address.Addr.{Addr}
 use Rattle.origin_values.specs.declared.address.Addr.TheVariants as address
 use Rattle.origin_values.specs.declared.host.Host.{Host}
@@ -56,3 +58,14 @@ abbrev pub SpellsHost : List ℕ → Host → Type 0
 SpellsHost text (Name name) = SpellsName text name
 SpellsHost text (V4 bytes) = SpellsV4 text bytes
 SpellsHost text (V6 bytes) = SpellsBracketed text bytes
+
+-- the table of refusals: a text that spells no host is refused at its first byte
+abbrev pub HostRefusedAt : List ℕ → ℕ → HostRefusal → Type 0
+HostRefusedAt text place BadHost = (place ≡ 0) × ((host : Host) → ¬ (SpellsHost text host))
+
+-- exactly one host or exactly one refusal, and never both
+pub record OneHost (text : List ℕ) : Type 0 where
+  pub some : ((host : Host) × SpellsHost text host) ⊎ ((place : ℕ) × (reason : HostRefusal) × HostRefusedAt text place reason)
+  pub one_host : (a b : Host) → SpellsHost text a → SpellsHost text b → a ≡ b
+  pub one_refusal : (p q : ℕ) (r s : HostRefusal) → HostRefusedAt text p r → HostRefusedAt text q s → (p ≡ q) × (r ≡ s)
+  pub not_both : (host : Host) (place : ℕ) (reason : HostRefusal) → SpellsHost text host → HostRefusedAt text place reason → ⊥

@@ -3,3 +3,5 @@ pub mod Equality
 pub mod Written
 pub mod HostGrammar
 pub mod HostReading
+pub mod Gives
+pub mod Valid

@@ -8,6 +8,7 @@ mod name;
 mod origin;
 mod proto;
 mod protos;
+mod refusal;
 mod scheme;
 
 pub use address::{Addr, same_address};
@@ -16,4 +17,5 @@ pub use laws::one_value_where_equal;
 pub use origin::{Origin, same_origin};
 pub use proto::{Proto, same_proto};
 pub use protos::Protos;
+pub use refusal::{HostRefusal, OriginRefusal};
 pub use scheme::{Scheme, default_port};
