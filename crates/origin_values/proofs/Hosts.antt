@@ -148,3 +148,20 @@ one_host_of text = record {
 
     both_of : (host : Host) (place : ℕ) (reason : HostRefusal) → SpellsHost text host → HostRefusedAt text place reason → ⊥
     both_of host place BadHost h k = k.1 host h
+
+pub host_read_complete : (text : List ℕ) (host : Host) → SpellsHost text host → host_or_refusal (read_host text) ≡ Ok host
+host_read_complete text host h = ap host_or_refusal (read_host_complete text host h)
+
+pub host_reads : (text : List ℕ) (host : Host) → host_or_refusal (read_host text) ≡ Ok host → SpellsHost text host
+host_reads text host h = go (read_host text) refl h
+  where
+    go : (o : Option Host) → read_host text ≡ o → host_or_refusal o ≡ Ok host → SpellsHost text host
+    go None is e = cc
+    go (Some other) is e = let same : other ≡ host = cc in subst (SpellsHost text) same (read_host_sound text other is)
+
+pub host_refused : (text : List ℕ) (place : ℕ) (reason : HostRefusal) → HostRefusedAt text place reason → host_or_refusal (read_host text) ≡ Err (record { place = place; reason = reason })
+host_refused text place BadHost h = go (read_host text) refl
+  where
+    go : (o : Option Host) → read_host text ≡ o → host_or_refusal o ≡ Err (record { place = place; reason = BadHost })
+    go None is = ap (λ p. Err (record { place = p; reason = BadHost })) (sym h.0)
+    go (Some host) is = absurd (h.1 host (read_host_sound text host is))

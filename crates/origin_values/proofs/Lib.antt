@@ -1,3 +1,5 @@
+pub mod AddressTexts
 pub mod Addresses
+pub mod HostTexts
 pub mod Hosts
 pub mod Names

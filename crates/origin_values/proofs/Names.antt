@@ -43,7 +43,7 @@ le_from_test a b h = grind arith
 test_from_lt : (a b : ℕ) → a < b → nat_lt a b ≡ true
 test_from_lt a b h = grind arith
 
-test_from_le : (a b : ℕ) → a ≤ b → nat_le a b ≡ true
+pub test_from_le : (a b : ℕ) → a ≤ b → nat_le a b ≡ true
 test_from_le a b h = grind arith
 
 not_true : (a : Bool) → not a ≡ true → a ≡ false
@@ -180,7 +180,7 @@ or_left : (a b c : Bool) → b ≡ true → (a || (b || c)) ≡ true
 or_left true b c h = refl
 or_left false b c h = rw h refl
 
-and_from : (a b : Bool) → a ≡ true → b ≡ true → (a && b) ≡ true
+pub and_from : (a b : Bool) → a ≡ true → b ≡ true → (a && b) ≡ true
 and_from a b h k = rw (h, k) refl
 
 digit_of_label : (c : ℕ) → digit_value c < 10 → (is_ascii_digit c ≡ true) × (of_label c ≡ true)

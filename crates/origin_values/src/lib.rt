@@ -13,7 +13,10 @@ mod scheme;
 
 pub use address::{Addr, same_address};
 pub use host::{Host, same_host};
-pub use laws::one_value_where_equal;
+pub use laws::{
+    addresses_are_read, hosts_are_read, one_host, one_value_where_equal,
+    written_addresses_are_read_back, written_hosts_are_read_back,
+};
 pub use origin::{Origin, same_origin};
 pub use proto::{Proto, same_proto};
 pub use protos::Protos;
