@@ -3,3 +3,4 @@ pub mod Addresses
 pub mod HostTexts
 pub mod Hosts
 pub mod Names
+pub mod Ports

@@ -5,3 +5,5 @@ pub mod HostGrammar
 pub mod HostReading
 pub mod Gives
 pub mod Valid
+pub mod OriginGrammar
+pub mod OriginReading

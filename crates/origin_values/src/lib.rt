@@ -6,9 +6,11 @@ mod host;
 mod laws;
 mod name;
 mod origin;
+mod port;
 mod proto;
 mod protos;
 mod refusal;
+mod run;
 mod scheme;
 
 pub use address::{Addr, same_address};
