@@ -1,2 +1,9 @@
 pub mod DefaultPort
 pub mod Equality
+pub mod Written
+pub mod HostGrammar
+pub mod HostReading
+pub mod Gives
+pub mod Valid
+pub mod OriginGrammar
+pub mod OriginReading

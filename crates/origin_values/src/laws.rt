@@ -1,10 +1,15 @@
-ghost use Rattle.std.specs.Prelude.{◌≡◌, true, ◌↔◌};
+ghost use Rattle.std.specs.Prelude.{◌≡◌, ℕ, List, true, ◌↔◌};
 ghost use Rattle.origin_values.specs.Equality.{scheme_eq, proto_eq, addr_eq, host_eq, origin_eq};
+ghost use Rattle.origin_values.specs.HostGrammar.{SpellsAddr, SpellsHost, HostRefusedAt, OneHost};
+ghost use Rattle.origin_values.specs.HostReading.{read_addr, read_host, host_or_refusal};
+ghost use Rattle.origin_values.specs.Valid.{IsAddr, IsHost};
+ghost use Rattle.origin_values.specs.Written.{addr_text, host_text};
 ghost use Rattle.origin_values.specs.declared.scheme.Scheme.{Scheme};
 ghost use Rattle.origin_values.specs.declared.proto.Proto.{Proto};
 ghost use Rattle.origin_values.specs.declared.address.Addr.{Addr};
 ghost use Rattle.origin_values.specs.declared.host.Host.{Host};
 ghost use Rattle.origin_values.specs.declared.origin.Origin.{Origin};
+ghost use Rattle.origin_values.specs.declared.refusal.HostRefusal.{HostRefusal};
 
 /// Each test of equality holds exactly where its two values are one.
 pub fn one_value_where_equal()
@@ -13,4 +18,40 @@ pub fn one_value_where_equal()
     ensures addr { (a b : Addr) → (addr_eq a b ≡ true) ↔ (a ≡ b) }
     ensures host { (a b : Host) → (host_eq a b ≡ true) ↔ (a ≡ b) }
     ensures origin { (a b : Origin) → (origin_eq a b ≡ true) ↔ (a ≡ b) }
+{}
+
+/// What is read as an address is spelled so, what is spelled is read, and a text spells at most one address, whose
+/// bytes are in their bounds.
+pub fn addresses_are_read()
+    ensures read { (text : List ℕ) (addr : Addr) → read_addr text ≡ Some addr → SpellsAddr text addr }
+    ensures spelled { (text : List ℕ) (addr : Addr) → SpellsAddr text addr → read_addr text ≡ Some addr }
+    ensures one { (text : List ℕ) (a b : Addr) → SpellsAddr text a → SpellsAddr text b → a ≡ b }
+    ensures valid { (text : List ℕ) (addr : Addr) → SpellsAddr text addr → IsAddr addr }
+{}
+
+/// The text that an address is written as spells it, and is read back as it.
+pub fn written_addresses_are_read_back()
+    ensures spelled { (addr : Addr) → IsAddr addr → SpellsAddr (addr_text addr) addr }
+    ensures back { (addr : Addr) → IsAddr addr → read_addr (addr_text addr) ≡ Some addr }
+{}
+
+/// What is read as a host is spelled so, what is spelled is read, what is refused is refused so, and a host that is
+/// spelled is in its form.
+pub fn hosts_are_read()
+    ensures read { (text : List ℕ) (host : Host) → host_or_refusal (read_host text) ≡ Ok host → SpellsHost text host }
+    ensures spelled { (text : List ℕ) (host : Host) → SpellsHost text host → host_or_refusal (read_host text) ≡ Ok host }
+    ensures refused { (text : List ℕ) (place : ℕ) (reason : HostRefusal) → HostRefusedAt text place reason →
+        host_or_refusal (read_host text) ≡ Err (record { place = place; reason = reason }) }
+    ensures valid { (text : List ℕ) (host : Host) → SpellsHost text host → IsHost host }
+{}
+
+/// Each text spells exactly one host or is refused at exactly one place for one reason, and never both.
+pub fn one_host()
+    ensures { (text : List ℕ) → OneHost text }
+{}
+
+/// The text that a host is written as spells it, and is read back as it.
+pub fn written_hosts_are_read_back()
+    ensures spelled { (host : Host) → IsHost host → SpellsHost (host_text host) host }
+    ensures back { (host : Host) → IsHost host → host_or_refusal (read_host (host_text host)) ≡ Ok host }
 {}

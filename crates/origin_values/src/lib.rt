@@ -4,15 +4,23 @@
 mod address;
 mod host;
 mod laws;
+mod name;
 mod origin;
+mod port;
 mod proto;
 mod protos;
+mod refusal;
+mod run;
 mod scheme;
 
 pub use address::{Addr, same_address};
 pub use host::{Host, same_host};
-pub use laws::one_value_where_equal;
+pub use laws::{
+    addresses_are_read, hosts_are_read, one_host, one_value_where_equal,
+    written_addresses_are_read_back, written_hosts_are_read_back,
+};
 pub use origin::{Origin, same_origin};
 pub use proto::{Proto, same_proto};
 pub use protos::Protos;
+pub use refusal::{HostRefusal, OriginRefusal};
 pub use scheme::{Scheme, default_port};
