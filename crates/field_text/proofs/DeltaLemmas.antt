@@ -1,14 +1,16 @@
 -- The reading of a number of seconds against its grammar.
-use Rattle.std.proofs.Common.{◌≡◌, ◌⊎◌, ℕ, ◌+◌, ◌-◌, ◌*◌, ◌<◌, ◌≤◌, Bool, true, false, cond, ◌&&◌, min, List, [], ◌∷◌, ◌++◌, length, drop, get_or, Option, Some, None, refl, ap, sym, ◌∙◌, subst, arith, inl, inr}
+use Rattle.std.proofs.Common.{◌≡◌, ◌⊎◌, ℕ, ◌+◌, ◌-◌, ◌*◌, ◌^◌, ◌<◌, ◌≤◌, Bool, true, false, cond, ◌&&◌, min, List, [], ◌∷◌, ◌++◌, length, drop, get_or, Option, Some, None, refl, ap, sym, ◌∙◌, subst, arith, inl, inr}
 use Rattle.std.specs.List.{list_all}
 use Rattle.std.specs.Int.{IsInRange}
 use Rattle.std.specs.Char.{is_ascii_digit, digit_value}
+use Rattle.std.specs.Fmt.{decimal}
 use Rattle.std.specs.Str.Parse.{AllDigits, digits_value, digits_value_after}
 use Rattle.std.proofs.lemmas.Bool.Decides.{nat_tests}
 use Rattle.std.proofs.lemmas.List.Folds.{list_all_at}
 use Rattle.std.proofs.lemmas.Grind.{common_steps}
 use Rattle.std.proofs.lemmas.Str.{digit_value_digit}
-use Rattle.std.proofs.lemmas.Str.Parse.{digit_from_value}
+use Rattle.std.proofs.lemmas.Str.Parse.{digit_from_value, IsNumeralModel, numerals_by_value, tells_digits}
+use Rattle.std.proofs.lemmas.Fmt.{decimal_nonempty, digits_decimal, digits_value-decimal}
 use Rattle.field_text.specs.DeltaGrammar.{greatest_delta_seconds, SpellsDelta, HasOther, IsNoDelta, OneDelta}
 use Rattle.field_text.specs.DeltaReading.{read_delta_seconds}
 
@@ -89,6 +91,16 @@ other_not_all (b ∷ bs) byte after other = go (is_ascii_digit b) (other_not_all
 -- a byte at a place of the text that is no digit
 pub other_at : (x : List ℕ) (i : ℕ) → i < length x → is_ascii_digit (get_or x i 0) ≡ false → IsNoDelta x
 other_at x i below other = inr (has_other x (list_all_at is_ascii_digit x i 0 below other))
+
+-- what is written in decimal
+pub decimal_spells : (n : ℕ) → n ≤ greatest_delta_seconds → SpellsDelta (decimal n) n
+decimal_spells n small =
+    let wide : n < 2 ^ 64 = omega arith in
+    let numerals : IsNumeralModel (AllDigits 10) (digits_value 10) = numerals_by_value (AllDigits 10) tells_digits in
+    record {
+      digits = (decimal_nonempty n wide, digits_decimal numerals n wide);
+      value = omega (arith, digits_value-decimal numerals n wide);
+    }
 
 -- what the reading says, as the grammar says it
 abbrev pub DeltaSays : List ℕ → Option ℕ → Type 0

@@ -72,9 +72,10 @@ escaped_byte p b bs false allowed_is says = inr ([], b, bs, tt, refl, allowed_is
 pub body_says : (x : List ℕ) → ((p : ℕ) → BodySays p x (read_body false p x)) × ((p : ℕ) → BodySays p (92 ∷ x) (read_body true (p + 1) x))
 body_says [] = (λ p. ([], [], tt, refl, inl refl, omega arith), λ p. ([], 92 ∷ [], tt, refl, inr refl, omega arith))
 body_says (b ∷ bs) =
-    let rec = body_says bs in
-    (λ p. plain_byte p b bs (nat_eq b 34) (nat_eq b 92) (is_quoted_text b) refl refl refl (rec.0 (p + 1)) (rec.1 p),
-     λ p. escaped_byte p b bs (is_after_backslash b) refl (rec.0 (p + 1 + 1)))
+    let rec = body_says bs in (
+      λ p. plain_byte p b bs (nat_eq b 34) (nat_eq b 92) (is_quoted_text b) refl refl refl (rec.0 (p + 1)) (rec.1 p),
+      λ p. escaped_byte p b bs (is_after_backslash b) refl (rec.0 (p + 1 + 1)),
+    )
 
 pub text_no_quote : (b : ℕ) → is_quoted_text b ≡ true → nat_eq b 34 ≡ false
 text_no_quote b valid = go (nat_eq b 34) refl
@@ -107,7 +108,7 @@ read_parts [] p tail valid = ap (λ n. read_body false n tail) (plus_zero p)
     plus_zero n = omega arith
 read_parts (Raw b ∷ parts) p tail valid =
     rw (text_no_quote b valid.0, text_no_slash b valid.0, valid.0)
-      (read_parts parts (p + 1) tail valid.1 ∙ ap (λ n. read_body false n tail) (moved p (length (parts_text parts))))
+    (read_parts parts (p + 1) tail valid.1 ∙ ap (λ n. read_body false n tail) (moved p (length (parts_text parts))))
   where
     moved : (n m : ℕ) → (n + 1) + m ≡ n + suc m
     moved n m = omega arith

@@ -1,6 +1,6 @@
 -- The longest run in front of a text.
-use Rattle.std.proofs.Common.{◌≡◌, ◌≢◌, ℕ, Bool, true, false, cond, List, [], ◌∷◌, ◌++◌, ◌-◌, length, take, drop, refl, ap, arith, length-drop}
-use Rattle.std.proofs.lemmas.List.{take_all}
+use Rattle.std.proofs.Common.{◌≡◌, ◌≢◌, ℕ, Bool, true, false, cond, List, [], ◌∷◌, ◌++◌, ◌+◌, ◌-◌, ◌≤◌, length, take, drop, refl, ap, sym, ◌∙◌, arith, length-drop}
+use Rattle.std.proofs.lemmas.List.{take_all, drop-drop}
 use Rattle.field_text.specs.Runs.{AllIn, BeginsIn, IsLongestRun, run_of, after_run}
 
 run_split : (class : ℕ → Bool) (x : List ℕ) → x ≡ run_of class x ++ after_run class x
@@ -70,6 +70,10 @@ run_is class x run rest s = rw s.text (run_of-append class run rest s.valid s.lo
 
 pub after_is : (class : ℕ → Bool) (x run rest : List ℕ) → IsLongestRun class x run rest → after_run class x ≡ rest
 after_is class x run rest s = rw s.text (after_run-append class run rest s.valid s.longest)
+
+-- from a place on, and from there on
+pub drop_on : (p q : ℕ) (x : List ℕ) → p ≤ q → drop (q - p) (drop p x) ≡ drop q x
+drop_on p q x below = drop-drop (q - p) p x ∙ ap (λ n. drop n x) (omega arith)
 
 -- a slice from a place to the end, as a call is given it
 pub slice_rest : (p : ℕ) (x : List ℕ) → take (length x - p) (drop p x) ≡ drop p x

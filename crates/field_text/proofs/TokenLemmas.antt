@@ -1,6 +1,6 @@
 -- The reading of a token against its grammar.
-use Rattle.std.proofs.Common.{◌≡◌, ◌≢◌, ℕ, ◌+◌, ◌-◌, List, [], ◌∷◌, ◌++◌, length, drop, Result, Ok, Err, refl, ap, sym, ◌∙◌, subst, arith}
-use Rattle.std.proofs.Math.Seq.{drop-append_seam}
+use Rattle.std.proofs.Common.{◌≡◌, ◌≢◌, ℕ, ◌+◌, ◌-◌, ◌≤◌, List, [], ◌∷◌, ◌++◌, length, take, drop, Result, Ok, Err, refl, ap, sym, ◌∙◌, subst, arith}
+use Rattle.std.proofs.Math.Seq.{take-append_seam, drop-append_seam}
 use Rattle.alt_base.specs.declared.refusal.At.{At}
 use Rattle.field_text.specs.declared.text_refusal.TextRefusal.{TextRefusal}
 use Rattle.field_text.specs.declared.text_refusal.TextRefusal.TheVariants.{Empty, BadByte, Unclosed}
@@ -9,7 +9,7 @@ use Rattle.field_text.specs.Runs.{AllIn, BeginsIn, IsLongestRun, run_of, after_r
 use Rattle.field_text.specs.TokenGrammar.{is_token, SpellsToken, TokenRefusedAt, OneToken}
 use Rattle.field_text.specs.TokenReading.{token_of, after_token, token_end, read_token}
 use Rattle.field_text.proofs.OneReadingLemmas.{Answers, one_reading}
-use Rattle.field_text.proofs.RunLemmas.{longest_run, no_run, begins_no_run, run_of-append, run_is, after_is}
+use Rattle.field_text.proofs.RunLemmas.{longest_run, no_run, begins_no_run, run_of-append, drop_on, run_is, after_is}
 
 -- what the reading says, as the grammar says it
 abbrev pub TokenSays : ℕ → List ℕ → Result ℕ (At TextRefusal) → Type 0
@@ -50,6 +50,19 @@ pub token_dropped : (p q : ℕ) (x : List ℕ) → SpellsToken p x q → drop (q
 token_dropped p q x s =
     let n : q - p ≡ length s.token = omega (arith, s.end) in
     rw (n, after_is is_token x s.token s.rest s.run, s.run.text) (drop-append_seam s.token s.rest)
+
+pub token_taken : (p q : ℕ) (x : List ℕ) → SpellsToken p x q → take (q - p) x ≡ token_of x
+token_taken p q x s =
+    let n : q - p ≡ length s.token = omega (arith, s.end) in
+    rw (n, run_is is_token x s.token s.rest s.run, s.run.text) (take-append_seam s.token s.rest)
+
+pub token_ends : (p q : ℕ) (x : List ℕ) → SpellsToken p x q → q ≡ p + length (token_of x)
+token_ends p q x s = s.end ∙ ap (λ run. p + length run) (sym (run_is is_token x s.token s.rest s.run))
+
+pub token_rest : (p q : ℕ) (x : List ℕ) → SpellsToken p (drop p x) q → drop q x ≡ after_token (drop p x)
+token_rest p q x s =
+    let below : p ≤ q = omega (arith, s.end) in
+    sym (drop_on p q x below) ∙ token_dropped p q (drop p x) s
 
 pub plain_read : (p : ℕ) (text rest : List ℕ) → AllIn is_token text → text ≢ [] → (BeginsIn is_token rest → ⊥) → read_token p (text ++ rest) ≡ Ok (p + length text)
 plain_read p text rest valid some ends = ap (token_end p) (run_of-append is_token text rest valid ends) ∙ end_of_some p text some

@@ -1,11 +1,14 @@
 -- The unquoted text of a quoted string, and what stands behind it.
-use Rattle.std.proofs.Common.{◌≡◌, ℕ, ◌+◌, ◌-◌, Bool, true, false, cond, nat_eq, List, [], ◌∷◌, ◌++◌, length, drop, Ok, refl, ap, sym, ◌∙◌, arith}
+use Rattle.std.proofs.Common.{◌≡◌, ℕ, ◌+◌, ◌-◌, ◌≤◌, Bool, true, false, cond, nat_eq, List, [], ◌∷◌, ◌++◌, length, take, drop, Result, Ok, Err, IfOk, refl, ap, sym, ◌∙◌, arith}
 use Rattle.std.proofs.lemmas.List.{append-nil}
-use Rattle.std.proofs.Math.Seq.{drop-append-add}
+use Rattle.std.proofs.Math.Seq.{take-append_seam, drop-append-add}
+use Rattle.alt_base.specs.declared.refusal.At.{At}
+use Rattle.field_text.specs.declared.text_refusal.TextRefusal.{TextRefusal}
 use Rattle.field_text.specs.Runs.{AllIn}
 use Rattle.field_text.specs.QuotedGrammar.{is_quoted_text, Part, Raw, Escaped, part_text, parts_text, part_byte, parts_bytes, IsPart, AreParts, SpellsQuoted}
 use Rattle.field_text.specs.QuotedReading.{read_quoted, unquoted_body, unquoted, after_body, after_quoted}
-use Rattle.field_text.proofs.QuotedLemmas.{text_no_quote, text_no_slash, quoted_spelled}
+use Rattle.field_text.proofs.RunLemmas.{drop_on}
+use Rattle.field_text.proofs.QuotedLemmas.{text_no_quote, text_no_slash, quoted_spelled, quoted_ok}
 
 -- the parts are unquoted and passed over
 pub unquoted_parts : (parts : List Part) (tail : List ℕ) → AreParts parts → unquoted_body false (parts_text parts ++ tail) ≡ parts_bytes parts ++ unquoted_body false tail
@@ -36,6 +39,20 @@ pub quoted_dropped : (p q : ℕ) (x : List ℕ) → SpellsQuoted p x q → drop 
 quoted_dropped p q x s =
     let n : q - p ≡ length (parts_text s.parts) + 2 = omega (arith, s.end) in
     rw (n, after_is p q x s, s.text) (dropped s.parts s.rest)
+
+pub quoted_rest : (p q : ℕ) (x : List ℕ) → SpellsQuoted p (drop p x) q → drop q x ≡ after_quoted (drop p x)
+quoted_rest p q x s =
+    let below : p ≤ q = omega (arith, s.end) in
+    sym (drop_on p q x below) ∙ quoted_dropped p q (drop p x) s
+
+pub rest_of_ok : (p : ℕ) (x : List ℕ) (r : Result ℕ (At TextRefusal)) → r ≡ read_quoted p (drop p x) → IfOk r (λ end. drop end x ≡ after_quoted (drop p x))
+rest_of_ok p x (Ok q) is = quoted_rest p q x (quoted_ok p (drop p x) (Ok q) is)
+rest_of_ok p x (Err at) is = tt
+
+pub between_quotes : (p q : ℕ) (x : List ℕ) (s : SpellsQuoted p x q) → take (q - p - 2) (drop 1 x) ≡ parts_text s.parts
+between_quotes p q x s =
+    let n : q - p - 2 ≡ length (parts_text s.parts) = omega (arith, s.end) in
+    rw (n, s.text) (take-append_seam (parts_text s.parts) (34 ∷ s.rest))
 
 -- quoted text alone
 abbrev raws : List ℕ → List Part

@@ -1,7 +1,7 @@
 ghost use Rattle.std.specs.Prelude.{◌≡◌, ◌≤◌, ◌<◌, ◌^◌, ◌+◌, length, drop};
 ghost use Rattle.field_text.specs.Runs.{run_of};
 ghost use Rattle.field_text.specs.BlanksGrammar.{is_blank, SpellsBlanks};
-ghost use Rattle.field_text.specs.BlanksReading.{read_blanks};
+ghost use Rattle.field_text.specs.BlanksReading.{read_blanks, after_blanks};
 
 /// The end of the blanks at a place (RFC 9110 5.6.3, `OWS`): the longest run of spaces and tabs that begins there,
 /// maybe empty.
@@ -10,6 +10,7 @@ pub fn ows(input: &[u8], place: u32) -> u32
     requires small { length input.now < 2 ^ 32 }
     ensures reading { result ≡ read_blanks place (drop place input.now) }
     ensures spelled { SpellsBlanks place (drop place input.now) result }
+    ensures rest { drop result input.now ≡ after_blanks (drop place input.now) }
     ensures above { place ≤ result }
     ensures within { result ≤ length input.now }
 {

@@ -10,15 +10,18 @@ mod blanks;
 mod laws;
 mod quoted_strings;
 mod seconds;
+#[cfg(test)]
+mod tests;
 mod text_refusal;
 mod tokens;
 
-pub use seconds::delta_seconds;
-pub use laws::{
-    blanks_mean, delta_seconds_means, one_blanks, one_delta_seconds, one_quoted, one_token, plain_quoted_is_read,
-    plain_token_is_read, quoted_means, quoted_parts, token_means, token_parts,
-};
 pub use blanks::ows;
+pub use laws::{
+    blanks_mean, delta_seconds_means, one_blanks, one_delta_seconds, one_quoted, one_token,
+    plain_quoted_is_read, plain_token_is_read, quoted_means, quoted_parts, token_means,
+    token_parts, written_delta_seconds_is_read,
+};
 pub use quoted_strings::quoted;
+pub use seconds::delta_seconds;
 pub use text_refusal::TextRefusal;
 pub use tokens::token;

@@ -1,6 +1,6 @@
 ghost use Rattle.std.specs.Prelude.{◌≡◌, ◌≤◌, ◌<◌, ◌^◌, ◌+◌, length, drop, false, IfOk, IfErr};
 ghost use Rattle.field_text.specs.QuotedGrammar.{SpellsQuoted, QuotedRefusedAt};
-ghost use Rattle.field_text.specs.QuotedReading.{read_quoted, read_body};
+ghost use Rattle.field_text.specs.QuotedReading.{read_quoted, read_body, after_quoted};
 
 use crate::TextRefusal;
 use alt_base::{At, after_backslash_table, quoted_text_table};
@@ -14,6 +14,7 @@ pub fn quoted(input: &[u8], place: u32) -> Result<u32, At<TextRefusal>>
     ensures reading { result ≡ read_quoted place (drop place input.now) }
     ensures ok { IfOk result (λ end. SpellsQuoted place (drop place input.now) end) }
     ensures err { IfErr result (λ at. QuotedRefusedAt place (drop place input.now) at.place at.reason) }
+    ensures rest { IfOk result (λ end. drop end input.now ≡ after_quoted (drop place input.now)) }
     ensures above { IfOk result (λ end. place + 2 ≤ end) }
     ensures within { IfOk result (λ end. end ≤ length input.now) }
 {

@@ -1,6 +1,6 @@
 ghost use Rattle.std.specs.Prelude.{◌≡◌, ◌≤◌, ◌<◌, ◌^◌, ◌+◌, length, drop, IfOk, IfErr};
 ghost use Rattle.field_text.specs.TokenGrammar.{SpellsToken, TokenRefusedAt};
-ghost use Rattle.field_text.specs.TokenReading.{read_token, token_of};
+ghost use Rattle.field_text.specs.TokenReading.{read_token, token_of, after_token};
 
 use crate::TextRefusal;
 use alt_base::{At, token_table};
@@ -13,6 +13,7 @@ pub fn token(input: &[u8], place: u32) -> Result<u32, At<TextRefusal>>
     ensures reading { result ≡ read_token place (drop place input.now) }
     ensures ok { IfOk result (λ end. SpellsToken place (drop place input.now) end) }
     ensures err { IfErr result (λ at. TokenRefusedAt place (drop place input.now) at.place at.reason) }
+    ensures rest { IfOk result (λ end. drop end input.now ≡ after_token (drop place input.now)) }
     ensures above { IfOk result (λ end. place < end) }
     ensures within { IfOk result (λ end. end ≤ length input.now) }
 {

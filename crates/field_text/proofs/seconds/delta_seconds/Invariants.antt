@@ -7,5 +7,5 @@ use Rattle.field_text.proofs.seconds.delta_seconds.Given as goal
 abbrev pub invariant-loop-digit : goal.invariant-loop-digit
 invariant-loop-digit l = record {
   reads : read_digits l.seconds (drop l.digit-index l.input) ≡ read_digits 0 l.input;
-  capped : l.seconds ≤ greatest_delta_seconds
+  capped : l.seconds ≤ greatest_delta_seconds;
 }
