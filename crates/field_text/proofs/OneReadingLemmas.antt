@@ -6,11 +6,11 @@ use Rattle.field_text.specs.Refusals.{refused}
 use Rattle.field_text.specs.OneReading.{OneReading}
 
 -- the grammar's words for an answer
-abbrev pub Answers : (ℕ → Type 0) → (ℕ → TextRefusal → Type 0) → Result ℕ (At TextRefusal) → Type 0
-Answers Spells RefusedAt (Ok q) = Spells q
-Answers Spells RefusedAt (Err at) = RefusedAt at.place at.reason
+abbrev pub Says : (ℕ → Type 0) → (ℕ → TextRefusal → Type 0) → Result ℕ (At TextRefusal) → Type 0
+Says Spells RefusedAt (Ok q) = Spells q
+Says Spells RefusedAt (Err at) = RefusedAt at.place at.reason
 
-some_answer : (Spells : ℕ → Type 0) (RefusedAt : ℕ → TextRefusal → Type 0) (r : Result ℕ (At TextRefusal)) → Answers Spells RefusedAt r → ((q : ℕ) × Spells q) ⊎ ((q : ℕ) × (why : TextRefusal) × RefusedAt q why)
+some_answer : (Spells : ℕ → Type 0) (RefusedAt : ℕ → TextRefusal → Type 0) (r : Result ℕ (At TextRefusal)) → Says Spells RefusedAt r → ((q : ℕ) × Spells q) ⊎ ((q : ℕ) × (why : TextRefusal) × RefusedAt q why)
 some_answer Spells RefusedAt (Ok q) s = inl (q, s)
 some_answer Spells RefusedAt (Err at) s = inr (at.place, at.reason, s)
 
@@ -20,7 +20,7 @@ err_of a = Err a
 same_at : (a b : At TextRefusal) → err_of a ≡ err_of b → (a.place ≡ b.place) × (a.reason ≡ b.reason)
 same_at a b e = let h : a ≡ b = cc in (ap (λ (x : At TextRefusal). x.place) h, ap (λ (x : At TextRefusal). x.reason) h)
 
-pub one_reading : (Spells : ℕ → Type 0) (RefusedAt : ℕ → TextRefusal → Type 0) (r : Result ℕ (At TextRefusal)) → Answers Spells RefusedAt r
+pub one_reading : (Spells : ℕ → Type 0) (RefusedAt : ℕ → TextRefusal → Type 0) (r : Result ℕ (At TextRefusal)) → Says Spells RefusedAt r
     → ((q : ℕ) → Spells q → r ≡ Ok q) → ((q : ℕ) (why : TextRefusal) → RefusedAt q why → r ≡ refused q why) → OneReading ℕ TextRefusal Spells RefusedAt
 one_reading Spells RefusedAt r says spelled refused_is = record {
   some = some_answer Spells RefusedAt r says;

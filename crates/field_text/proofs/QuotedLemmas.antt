@@ -1,13 +1,13 @@
 -- The reading of a quoted string against its grammar.
-use Rattle.std.proofs.Common.{◌≡◌, ◌≢◌, ◌⊎◌, ℕ, ◌+◌, ◌<◌, ◌≤◌, suc, Bool, true, false, cond, nat_eq, List, [], ◌∷◌, ◌++◌, length, Result, Ok, Err, IfOk, IfErr, refl, ap, sym, ◌∙◌, subst, arith, inl, inr}
+use Rattle.std.proofs.Common.{◌≡◌, ◌≢◌, ◌⊎◌, ℕ, ◌+◌, ◌≤◌, suc, Bool, true, false, cond, nat_eq, List, [], ◌∷◌, ◌++◌, length, Result, Ok, Err, IfOk, IfErr, refl, ap, sym, ◌∙◌, subst, arith, inl, inr}
 use Rattle.std.proofs.lemmas.List.{append_assoc, length-append}
 use Rattle.alt_base.specs.declared.refusal.At.{At}
 use Rattle.field_text.specs.declared.text_refusal.TextRefusal.{TextRefusal}
 use Rattle.field_text.specs.declared.text_refusal.TextRefusal.TheVariants.{Empty, BadByte, Unclosed}
 use Rattle.field_text.specs.Refusals.{refused}
 use Rattle.field_text.specs.QuotedReading.{read_body, read_quoted}
-use Rattle.field_text.specs.QuotedGrammar.{is_quoted_text, is_after_backslash, Part, Raw, Escaped, part_text, parts_text, IsPart, AreParts, SpellsQuoted, IsBadByte, IsBadEscape, IsUnclosed, QuotedRefusedAt, OneQuoted}
-use Rattle.field_text.proofs.OneReadingLemmas.{Answers, one_reading}
+use Rattle.field_text.specs.QuotedGrammar.{is_quoted_text, is_after_backslash, Part, Raw, Escaped, part_text, parts_text, IsPart, AreParts, SpellsQuoted, QuotedRefusedAt, OneQuoted}
+use Rattle.field_text.proofs.OneReadingLemmas.{Says, one_reading}
 
 -- the same of the text behind the opening quote
 abbrev pub BodyEnds : ℕ → List ℕ → ℕ → Type 0
@@ -143,7 +143,7 @@ quoted_refused p q Unclosed x s = rw s.text (read_parts s.parts (p + 1) s.tail s
 
 -- what the reading says, as the grammar says it
 abbrev pub QuotedSays : ℕ → List ℕ → Result ℕ (At TextRefusal) → Type 0
-QuotedSays p x r = Answers (SpellsQuoted p x) (QuotedRefusedAt p x) r
+QuotedSays p x r = Says (SpellsQuoted p x) (QuotedRefusedAt p x) r
 
 from_refused : (p q : ℕ) (bs : List ℕ) (reason : TextRefusal) → BodyRefused (p + 1) bs q reason → QuotedRefusedAt p (34 ∷ bs) q reason
 from_refused p q bs Empty s = absurd s

@@ -1,19 +1,19 @@
 -- The reading of a token against its grammar.
-use Rattle.std.proofs.Common.{◌≡◌, ◌≢◌, ℕ, ◌+◌, ◌-◌, ◌≤◌, List, [], ◌∷◌, ◌++◌, length, take, drop, Result, Ok, Err, refl, ap, sym, ◌∙◌, subst, arith}
+use Rattle.std.proofs.Common.{◌≡◌, ◌≢◌, ℕ, ◌+◌, ◌-◌, ◌≤◌, List, [], ◌∷◌, ◌++◌, length, take, drop, Result, Ok, refl, ap, sym, ◌∙◌, subst, arith}
 use Rattle.std.proofs.Math.Seq.{take-append_seam, drop-append_seam}
 use Rattle.alt_base.specs.declared.refusal.At.{At}
 use Rattle.field_text.specs.declared.text_refusal.TextRefusal.{TextRefusal}
 use Rattle.field_text.specs.declared.text_refusal.TextRefusal.TheVariants.{Empty, BadByte, Unclosed}
 use Rattle.field_text.specs.Refusals.{refused}
-use Rattle.field_text.specs.Runs.{AllIn, BeginsIn, IsLongestRun, run_of, after_run}
+use Rattle.field_text.specs.Runs.{AllIn, BeginsIn, IsLongestRun}
 use Rattle.field_text.specs.TokenGrammar.{is_token, SpellsToken, TokenRefusedAt, OneToken}
 use Rattle.field_text.specs.TokenReading.{token_of, after_token, token_end, read_token}
-use Rattle.field_text.proofs.OneReadingLemmas.{Answers, one_reading}
+use Rattle.field_text.proofs.OneReadingLemmas.{Says, one_reading}
 use Rattle.field_text.proofs.RunLemmas.{longest_run, no_run, begins_no_run, run_of-append, drop_on, run_is, after_is}
 
 -- what the reading says, as the grammar says it
 abbrev pub TokenSays : ℕ → List ℕ → Result ℕ (At TextRefusal) → Type 0
-TokenSays p x r = Answers (SpellsToken p x) (TokenRefusedAt p x) r
+TokenSays p x r = Says (SpellsToken p x) (TokenRefusedAt p x) r
 
 by_run : (p : ℕ) (x run : List ℕ) → token_of x ≡ run → TokenSays p x (token_end p run)
 by_run p x [] is = (refl, begins_no_run is_token x is)

@@ -1,11 +1,11 @@
 -- The unquoted text of a quoted string, and what stands behind it.
-use Rattle.std.proofs.Common.{◌≡◌, ℕ, ◌+◌, ◌-◌, ◌≤◌, Bool, true, false, cond, nat_eq, List, [], ◌∷◌, ◌++◌, length, take, drop, Result, Ok, Err, IfOk, refl, ap, sym, ◌∙◌, arith}
+use Rattle.std.proofs.Common.{◌≡◌, ℕ, ◌+◌, ◌-◌, ◌≤◌, false, List, [], ◌∷◌, ◌++◌, length, take, drop, Result, Ok, Err, IfOk, refl, ap, sym, ◌∙◌, arith}
 use Rattle.std.proofs.lemmas.List.{append-nil}
 use Rattle.std.proofs.Math.Seq.{take-append_seam, drop-append-add}
 use Rattle.alt_base.specs.declared.refusal.At.{At}
 use Rattle.field_text.specs.declared.text_refusal.TextRefusal.{TextRefusal}
 use Rattle.field_text.specs.Runs.{AllIn}
-use Rattle.field_text.specs.QuotedGrammar.{is_quoted_text, Part, Raw, Escaped, part_text, parts_text, part_byte, parts_bytes, IsPart, AreParts, SpellsQuoted}
+use Rattle.field_text.specs.QuotedGrammar.{is_quoted_text, Part, Raw, Escaped, parts_text, parts_bytes, AreParts, SpellsQuoted}
 use Rattle.field_text.specs.QuotedReading.{read_quoted, unquoted_body, unquoted, after_body, after_quoted}
 use Rattle.field_text.proofs.RunLemmas.{drop_on}
 use Rattle.field_text.proofs.QuotedLemmas.{text_no_quote, text_no_slash, quoted_spelled, quoted_ok}

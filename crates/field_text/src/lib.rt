@@ -1,9 +1,11 @@
 //! The parts of a field's value that most fields share (RFC 9110 5.6): tokens, quoted strings and blanks, and the
 //! number of seconds of RFC 9111 1.2.2. Every call takes no memory and looks at each byte once.
 //!
-//! A grammar stands in three files of `specs/`: the grammar by how a text splits, one record for each row of its table
-//! of refusals; the reading, a function on the list of the bytes from a place on, which the code's contract cites; and
-//! what each text is owed, one reading or one refusal. The laws that join them are public functions of `laws`.
+//! How a grammar is written here. In `specs/` a file `..Grammar` says what is spelled by how a text splits into parts,
+//! and has one record for each row of the table of refusals, with its place; a file `..Reading` is the function on the
+//! list of the bytes from a place on that the code's contract cites, beside the functions that give the parts of what
+//! was read. In `laws` public functions with empty bodies join the two: what is read is so spelled, what is spelled is
+//! read, each text is one value or one refusal and never both, and what is written is read back.
 #![tactic(auto)]
 
 mod blanks;
