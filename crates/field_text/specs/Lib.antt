@@ -1,0 +1,11 @@
+pub mod OneReading
+pub mod Refusals
+pub mod Runs
+pub mod TokenGrammar
+pub mod TokenReading
+pub mod QuotedGrammar
+pub mod QuotedReading
+pub mod BlanksGrammar
+pub mod BlanksReading
+pub mod DeltaGrammar
+pub mod DeltaReading
