@@ -20,7 +20,8 @@ use Rattle.route_events.specs.declared.refusal.StepRefusal.TheVariants.{NumberNo
 use Rattle.route_events.specs.Journal.{Happened, Taken, Journal, newest_moment, step_count, with_end}
 use Rattle.route_events.specs.Attempts.{attempts, has_ended, pending, pending_attempt, is_pending}
 use Rattle.route_events.specs.Requests.{Standing, Waits, OutOn, Over, requests, newest_number, standing, waits}
-use Rattle.route_events.specs.Connections.{connections, is_open_number, outstanding, send_count, without}
+use Rattle.route_events.specs.Connections.{connections, closes, is_open, open_connections, is_open_number, outstanding, send_count, without}
+use Rattle.std.specs.List.{list_any}
 use Rattle.route_events.specs.Step.{refusal}
 use Rattle.route_events.proofs.Lists.{IsIn, AreApart, contradicts, same_number, nat_eq-self, nat_eq-below, in_append_one, apart_append_one, in_filter, find_in, or_right, not_true}
 
@@ -37,8 +38,8 @@ pub record Sound (journal : Journal) : Type 0 where
   -- what is outstanding on a connection was sent there last, and is the number of a request
   pub out_stands : (conn q : ℕ) → IsIn q (outstanding journal conn) → standing journal q ≡ Some (OutOn conn)
   pub out_known : (conn q : ℕ) → IsIn q (outstanding journal conn) → q ≤ newest_number journal
-  -- nothing was sent where no attempt has ended
-  pub unused : (n : ℕ) → has_ended journal n ≡ false → (outstanding journal n ≡ []) × (send_count journal n ≡ 0)
+  -- nothing was sent, and nothing closed, where no attempt has ended
+  pub unused : (n : ℕ) → has_ended journal n ≡ false → (outstanding journal n ≡ []) × (send_count journal n ≡ 0) × (list_any (closes n) journal ≡ false)
 
 pub sound_begun : Sound []
 sound_begun = record {
@@ -51,7 +52,7 @@ sound_begun = record {
   ended = λ c none. absurd none;
   out_stands = λ conn q none. absurd none;
   out_known = λ conn q none. absurd none;
-  unused = λ n h. (refl, refl);
+  unused = λ n h. (refl, refl, refl);
 }
 
 -- actions
@@ -75,7 +76,7 @@ sound_send j q c s u waiting known used sound = record {
   ended = sound.ended;
   out_stands = λ conn r found. by_conn conn r (nat_eq c conn) refl found;
   out_known = λ conn r found. known_by_conn conn r (nat_eq c conn) found;
-  unused = λ n h. (out_by_conn n h (nat_eq c n) refl, sends_by_conn n h (nat_eq c n) refl);
+  unused = λ n h. (out_by_conn n h (nat_eq c n) refl, sends_by_conn n h (nat_eq c n) refl, (sound.unused n h).2);
 }
   where
     by_place : (conn r : ℕ) → nat_eq c conn ≡ true → IsIn r (outstanding j conn) ⊎ (r ≡ q) → option_map_or Some (cond (nat_eq q r) (Some (OutOn c)) None) (standing j r) ≡ Some (OutOn conn)
@@ -152,7 +153,7 @@ sound_lost j q sound = record {
       let still = in_filter (λ n. not (nat_eq n q)) r (outstanding j conn) found in
       by_test conn r (nat_eq q r) (nat_eq-flipped q r ∙ not_true (nat_eq r q) still.1) (sound.out_stands conn r still.0);
   out_known = λ conn r found. sound.out_known conn r (in_filter (λ n. not (nat_eq n q)) r (outstanding j conn) found).0;
-  unused = λ n h. (ap (without q) (sound.unused n h).0, (sound.unused n h).1);
+  unused = λ n h. (ap (without q) (sound.unused n h).0, (sound.unused n h).1, (sound.unused n h).2);
 }
   where
     nat_eq-flipped : (a b : ℕ) → nat_eq a b ≡ nat_eq b a
@@ -296,10 +297,48 @@ sound_opened j now m p d port names handed_in pend sound =
     by_attempt None = (sound.connections_apart, λ c found. or_right (nat_eq m c.number) (has_ended j c.number) (sound.ended c found))
     by_attempt (Some a) = (apart_append_one (λ (c : Connection). c.number) (connections j) (connection a) sound.connections_apart other, λ c found. by_place a c (in_append_one c (connection a) (connections j) found))
 
+-- an open connection of a number was made
+pub record IsOpened (j : Journal) (c : ℕ) : Type 0 where
+  pub connection : Connection
+  pub found : find (λ (x : Connection). nat_eq x.number c) (open_connections j) ≡ Some connection
+  pub there : IsIn connection (open_connections j)
+  pub made : IsIn connection (connections j)
+  pub numbered : connection.number ≡ c
+
+pub opened_of : (j : Journal) (c : ℕ) → is_open_number j c ≡ true → IsOpened j c
+opened_of j c h = by_found (find (λ (x : Connection). nat_eq x.number c) (open_connections j)) refl h
+  where
+    by_found : (w : Option Connection) → find (λ (x : Connection). nat_eq x.number c) (open_connections j) ≡ w → is_some w ≡ true → IsOpened j c
+    by_found None e some = absurd (true≢false (sym some))
+    by_found (Some x) e some =
+        let there = find_in (λ (x : Connection). nat_eq x.number c) (open_connections j) x e in
+        record { connection = x; found = e; there = there.0; made = (in_filter (is_open j) x (connections j) there.0).0; numbered = same_number x.number c there.1 }
+
+pub sound_closed : (j : Journal) (now c : ℕ) (handed_in : Bool) → is_open_number j c ≡ true → Sound j → Sound (Happened now (fact.Closed c) handed_in ∷ j)
+sound_closed j now c handed_in is_open_now sound = record {
+  counted = sound.counted;
+  not_ended = sound.not_ended;
+  attempts_apart = sound.attempts_apart;
+  requests_apart = sound.requests_apart;
+  newest = sound.newest;
+  connections_apart = sound.connections_apart;
+  ended = sound.ended;
+  out_stands = sound.out_stands;
+  out_known = sound.out_known;
+  unused = λ n h. ((sound.unused n h).0, (sound.unused n h).1, by_test n h (nat_eq c n) refl);
+}
+  where
+    used : has_ended j c ≡ true
+    used = let is = opened_of j c is_open_now in subst (λ k. has_ended j k ≡ true) is.numbered (sound.ended is.connection is.made)
+
+    by_test : (n : ℕ) → has_ended j n ≡ false → (b : Bool) → nat_eq c n ≡ b → (b || list_any (closes n) j) ≡ false
+    by_test n h false e = (sound.unused n h).2
+    by_test n h true e = contradicts (has_ended j c) used (ap (has_ended j) (same_number c n e) ∙ h)
+
 -- each fact that isn't refused
 pub sound_fact : (j : Journal) (now : ℕ) (fact : Fact) → refusal j now fact ≡ None → Sound j → Sound (Happened now fact true ∷ j)
 sound_fact j now (fact.Request n o) free sound = sound_request j now n o true (above_newest j now n o free) sound
 sound_fact j now (fact.Opened m p d port names) free sound = sound_opened j now m p d port names true (opened_pending j now m p d port names free) sound
 sound_fact j now (fact.Failed m) free sound = sound_failed j now m true (failed_pending j now m free) sound
-sound_fact j now (fact.Closed c) free sound = record { counted = sound.counted; not_ended = sound.not_ended; attempts_apart = sound.attempts_apart; requests_apart = sound.requests_apart; newest = sound.newest; connections_apart = sound.connections_apart; ended = sound.ended; out_stands = sound.out_stands; out_known = sound.out_known; unused = sound.unused }
+sound_fact j now (fact.Closed c) free sound = sound_closed j now c true (closed_open j now c free) sound
 sound_fact j now fact.Tick free sound = record { counted = sound.counted; not_ended = sound.not_ended; attempts_apart = sound.attempts_apart; requests_apart = sound.requests_apart; newest = sound.newest; connections_apart = sound.connections_apart; ended = sound.ended; out_stands = sound.out_stands; out_known = sound.out_known; unused = sound.unused }

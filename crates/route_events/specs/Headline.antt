@@ -1,11 +1,12 @@
 -- What a client promises of its actions.
-use Rattle.std.specs.Prelude.{◌≡◌, ◌⊎◌, ℕ, true, false, [], ◌∷◌, Some, All, Any}
+use Rattle.std.specs.Prelude.{◌≡◌, ◌⊎◌, ℕ, true, false, List, [], ◌∷◌, ◌++◌, Option, Some, All, Any}
+use Rattle.origin_values.specs.declared.host.Host.{Host}
 use Rattle.route_events.specs.declared.action.Action.{Action}
 use Rattle.route_events.specs.declared.action.Action.TheVariants as action
 use Rattle.route_events.specs.declared.request.Request.{Request}
 use Rattle.route_events.specs.declared.connection.Connection.{Connection}
 use Rattle.route_events.specs.Journal.{Happened, Taken, Journal, newest_moment}
-use Rattle.route_events.specs.Requests.{request_of}
+use Rattle.route_events.specs.Requests.{request_of, waiting}
 use Rattle.route_events.specs.Connections.{connections, connection_of, is_open, is_busy}
 use Rattle.route_events.specs.Authority.{is_authoritative}
 use Rattle.route_events.specs.Routes.{routes, is_usable, has_pending}
@@ -45,3 +46,16 @@ abbrev pub EachAction : (Journal → Action → Type 0) → Journal → Type 0
 EachAction P [] = Unit {0}
 EachAction P (Happened moment fact handed_in ∷ older) = EachAction P older
 EachAction P (Taken action ∷ older) = P older action × EachAction P older
+
+-- the three sentences, of a journal
+abbrev pub SendsOnlyOn : Journal → Type 0
+SendsOnlyOn journal =
+    (newer before : Journal) (request conn : ℕ) (stream : Option ℕ) (used : Option (Host × ℕ)) →
+    journal ≡ newer ++ Taken (action.SendOn request conn stream used) ∷ before → MaySend before request conn
+
+abbrev pub RefusesOnlyWhere : Journal → Type 0
+RefusesOnlyWhere journal =
+    (newer before : Journal) (request : ℕ) → journal ≡ newer ++ Taken (action.Refuse request) ∷ before → MayRefuse before request
+
+abbrev pub WaitsOnlyFor : Journal → Type 0
+WaitsOnlyFor journal = All (MayWait journal) (waiting journal)

@@ -1,0 +1,8 @@
+mod Loops
+mod Bounds
+mod Listing
+mod Choosing
+mod Applying
+mod SettlingSo
+mod Effects
+mod Steps

@@ -1,0 +1,244 @@
+-- A router's step is the journal's step.
+use Rattle.std.proofs.Common.{◌≡◌, ◌⊎◌, ℕ, ◌+◌, ◌<◌, ◌≤◌, Bool, true, false, cond, not, ◌&&◌, nat_eq, nat_lt, nat_le, List, [], ◌∷◌, ◌++◌, map, filter, find, Option, Some, None, is_some, refl, ap, sym, ◌∙◌, subst, arith, append_assoc, append-nil, Result, Ok, Err, IfOk}
+use Rattle.std.specs.Option.{option_map}
+use Rattle.route_events.specs.declared.fact.Fact.{Fact}
+use Rattle.route_events.specs.declared.fact.Fact.TheVariants as fact
+use Rattle.route_events.specs.declared.action.Action.{Action}
+use Rattle.route_events.specs.declared.action.Action.TheVariants.{SendOn, Refuse, Lost}
+use Rattle.route_events.specs.Headline.{SendsOnlyOn, RefusesOnlyWhere}
+use Rattle.route_events.specs.declared.request.Request.{Request}
+use Rattle.route_events.specs.declared.attempt.Attempt.{Attempt}
+use Rattle.route_events.specs.declared.connection.Connection.{Connection}
+use Rattle.route_events.specs.declared.refusal.StepRefusal.{StepRefusal}
+use Rattle.route_events.specs.declared.refusal.StepRefusal.TheVariants.{Spent, TimeBack, NumberNotAbove, NoSuchAttempt, NoSuchConn}
+use Rattle.route_events.specs.Journal.{Happened, Taken, Journal, step_count, newest_moment}
+use Rattle.route_events.specs.Attempts.{pending_attempt, is_pending}
+use Rattle.route_events.specs.Requests.{requests, newest_number, standing, waits, waiting}
+use Rattle.route_events.specs.Connections.{open_connections, is_open_number, outstanding}
+use Rattle.route_events.specs.Dispatch.{dispatch}
+use Rattle.route_events.specs.Step.{IsRun, Stepped, refusal, fact_refusal, with_actions, with_fact, effects, settle, settled, step, newest_actions}
+use Rattle.route_events.proofs.Lists.{IsIn, AreApart, apart_filter}
+use Rattle.route_events.proofs.Sound.{Sound, sound_fact, above_newest, opened_pending, failed_pending, closed_open, IsStarted, started_of}
+use Rattle.route_events.proofs.Settles.{Settles, effected}
+use Rattle.route_events.proofs.Runs.{IsSettled, each, allowed_at, all_settled, are_effects, waiting_in}
+use Rattle.router_core.specs.declared.open_connection.OpenConnection.{OpenConnection}
+use Rattle.router_core.specs.declared.router.Router.{Router}
+use Rattle.router_core.specs.declared.tables.Tables.{Tables}
+use Rattle.router_core.specs.declared.waiting.Waiting.{Waiting}
+use Rattle.router_core.specs.declared.step_state.StepState.{StepState}
+use Rattle.router_core.specs.OpenConnections.{kept_of}
+use Rattle.router_core.specs.WaitingRequests.{AreTried}
+use Rattle.router_core.specs.Tables.{Hold}
+use Rattle.router_core.specs.Reasons.{reason_of, reason_of_fact, newest_after}
+use Rattle.router_core.specs.StepStates.{attempt_among, connection_among, ended, opened, with_effect}
+use Rattle.router_core.specs.StepStates as over
+use Rattle.router_core.specs.StandsFor.{StandsFor, Takes, requests_of}
+use Rattle.router_core.specs.Becomes.{begun, stepped, Becomes}
+use Rattle.router_core.proofs.Listing.{map_append, find_map, filter_within}
+use Rattle.router_core.proofs.SettlingSo.{Keeps, Asked, number_of, still_waiting, over_keeps}
+use Rattle.router_core.proofs.Effects.{waiting_request, tried_arrival, requests_tried, tried_ended, hold_ended, hold_opened, out_on_is, loses_all, nowhere_else, hold_closed}
+
+-- why a step isn't taken
+
+not_above : (n newest : ℕ) → nat_le n newest ≡ not (nat_lt newest n)
+not_above n newest = grind arith
+
+number_reason : (b : Bool) (r : StepRefusal) → cond b None (Some r) ≡ cond (not b) (Some r) None
+number_reason true r = refl
+number_reason false r = refl
+
+some_map : {X Y : Type 0} (f : X → Y) (w : Option X) → is_some (option_map f w) ≡ is_some w
+some_map f None = refl
+some_map f (Some x) = refl
+
+open_is : (t : Tables) (j : Journal) (c : ℕ) → Hold t j → is_some (connection_among t.connections c) ≡ is_open_number j c
+open_is t j c hold =
+    ap (λ cs. is_some (connection_among cs c)) hold.connections
+    ∙ ap is_some (find_map (λ (k : OpenConnection). nat_eq k.made.number c) (kept_of j) (open_connections j))
+    ∙ some_map (kept_of j) (find (λ (x : Connection). nat_eq x.number c) (open_connections j))
+
+fact_reason : (router : Router) (j : Journal) (f : Fact) → StandsFor router j → reason_of_fact router.newest router.tables f ≡ fact_refusal j f
+fact_reason router j (fact.Request n o) stands =
+    number_reason (nat_lt router.newest n) (NumberNotAbove router.newest)
+    ∙ ap (λ b. cond b (Some (NumberNotAbove router.newest)) None) (sym (not_above n router.newest))
+    ∙ ap (λ m. cond (nat_le n m) (Some (NumberNotAbove m)) None) stands.newest
+fact_reason router j (fact.Opened m p d port names) stands = ap (λ as'. cond (is_some (attempt_among as' m)) None (Some NoSuchAttempt)) stands.tables.pending
+fact_reason router j (fact.Failed m) stands = ap (λ as'. cond (is_some (attempt_among as' m)) None (Some NoSuchAttempt)) stands.tables.pending
+fact_reason router j (fact.Closed c) stands = ap (λ b. cond b None (Some NoSuchConn)) (open_is router.tables j c stands.tables)
+fact_reason router j fact.Tick stands = refl
+
+pub reason_is : (router : Router) (j : Journal) (now : ℕ) (f : Fact) → StandsFor router j → reason_of router.facts router.last router.newest router.tables now f ≡ refusal j now f
+reason_is router j now f stands =
+    ap (λ r. cond (nat_eq router.facts 16777215) (Some (Spent router.facts)) (cond (nat_lt now router.last) (Some (TimeBack (record { 0 = router.last }))) r)) (fact_reason router j f stands)
+    ∙ (λ i. cond (nat_eq (stands.facts i) 16777215) (Some (Spent (stands.facts i))) (cond (nat_lt now (stands.last i)) (Some (TimeBack (record { 0 = stands.last i }))) (fact_refusal j f)))
+
+-- the effect of a fact
+
+newest_with : (j : Journal) (as' : List Action) → newest_actions (with_actions j as') ≡ newest_actions j ++ as'
+newest_with j [] = sym (append-nil (newest_actions j))
+newest_with j (a ∷ as') = newest_with (Taken a ∷ j) as' ∙ append_assoc (newest_actions j) (a ∷ []) as'
+
+-- facts that end no attempt and bring no request
+tried_closed : (j : Journal) (now c : ℕ) (ws : List Waiting) → AreTried j ws → AreTried (Happened now (fact.Closed c) true ∷ j) ws
+tried_closed j now c [] h = tt
+tried_closed j now c (w ∷ ws) h = (h.0, tried_closed j now c ws h.1)
+
+tried_tick : (j : Journal) (now : ℕ) (ws : List Waiting) → AreTried j ws → AreTried (Happened now fact.Tick true ∷ j) ws
+tried_tick j now [] h = tt
+tried_tick j now (w ∷ ws) h = (h.0, tried_tick j now ws h.1)
+
+pub fact_keeps : (router : Router) (j : Journal) (now : ℕ) (f : Fact) → StandsFor router j → Sound j → refusal j now f ≡ None → Keeps (with_effect (begun router) f) (with_fact j now f) (waiting (with_fact j now f))
+fact_keeps router j now (fact.Request n o) stands sound free = record {
+  tables = record { opened = stands.tables.opened; pending = stands.tables.pending; connections = stands.tables.connections };
+  waiting = map_append (λ (w : Waiting). w.request) router.waiting (record { request = record { number = n; origin = o }; tried = [] } ∷ [])
+      ∙ ap (λ (qs : List Request). qs ++ record { number = n; origin = o } ∷ []) stands.waiting ∙ sym (waiting_request j now n o sound above);
+  tried = tried_arrival j now n o router.waiting below stands.tried;
+  written = refl;
+}
+  where
+    above : newest_number j < n
+    above = above_newest j now n o free
+
+    below : (q : Request) → IsIn q (requests_of router.waiting) → q.number < n
+    below q found = omega (arith, above, sound.newest q (waiting_in j q (subst (IsIn q) stands.waiting found)).0)
+fact_keeps router j now (fact.Opened m p d port names) stands sound free =
+    let is : IsStarted j m = started_of j m (opened_pending j now m p d port names free) in
+    let k : Journal = Happened now (fact.Opened m p d port names) true ∷ j in
+    subst (λ w. Keeps (opened (begun router) w p d port names) k (waiting k)) (sym (ap (λ as'. attempt_among as' m) stands.tables.pending ∙ is.found)) (record {
+      tables = hold_opened router.tables j now m is.attempt p d port names sound is.found is.numbered is.going stands.tables;
+      waiting = requests_tried is.attempt.origin is.attempt.route router.waiting ∙ stands.waiting;
+      tried = tried_ended j now (fact.Opened m p d port names) m is.attempt router.waiting refl is.found stands.tried;
+      written = refl;
+    })
+fact_keeps router j now (fact.Failed m) stands sound free =
+    let is : IsStarted j m = started_of j m (failed_pending j now m free) in
+    let k : Journal = Happened now (fact.Failed m) true ∷ j in
+    subst (λ w. Keeps (ended (begun router) w) k (waiting k)) (sym (ap (λ as'. attempt_among as' m) stands.tables.pending ∙ is.found)) (record {
+      tables = subst (λ n. Hold (record { opened = router.tables.opened; pending = over.other_attempts router.tables.pending n; connections = router.tables.connections }) k) (sym is.numbered) (hold_ended router.tables j now m stands.tables);
+      waiting = requests_tried is.attempt.origin is.attempt.route router.waiting ∙ stands.waiting;
+      tried = tried_ended j now (fact.Failed m) m is.attempt router.waiting refl is.found stands.tried;
+      written = refl;
+    })
+fact_keeps router j now (fact.Closed c) stands sound free =
+    let begins : Journal = Happened now (fact.Closed c) true ∷ j in
+    let loses = loses_all _ begins (outstanding j c) (hold_closed router.tables j now c stands.tables) (λ q out. nowhere_else j now c q sound out) in
+    record {
+      tables = loses.tables;
+      waiting = stands.waiting ∙ sym loses.waiting;
+      tried = loses.tried router.waiting (tried_closed j now c router.waiting stands.tried);
+      written = ap (λ qs. map Lost qs) (out_on_is router.tables j c stands.tables (closed_open j now c free)) ∙ sym (newest_with begins (map Lost (outstanding j c)));
+    }
+fact_keeps router j now fact.Tick stands sound free = record {
+  tables = record { opened = stands.tables.opened; pending = stands.tables.pending; connections = stands.tables.connections };
+  waiting = stands.waiting;
+  tried = tried_tick j now router.waiting stands.tried;
+  written = refl;
+}
+
+-- settling, and counts
+
+count_with : (j : Journal) (as' : List Action) → step_count (with_actions j as') ≡ step_count j
+count_with j [] = refl
+count_with j (a ∷ as') = count_with (Taken a ∷ j) as'
+
+count_settle : (j : Journal) (now : ℕ) (qs : List Request) → step_count (settle j now qs) ≡ step_count j
+count_settle j now [] = refl
+count_settle j now (q ∷ qs) = count_settle (with_actions j (dispatch j q now)) now qs ∙ count_with j (dispatch j q now)
+
+number_with : (j : Journal) (as' : List Action) → newest_number (with_actions j as') ≡ newest_number j
+number_with j [] = refl
+number_with j (a ∷ as') = number_with (Taken a ∷ j) as'
+
+number_settle : (j : Journal) (now : ℕ) (qs : List Request) → newest_number (settle j now qs) ≡ newest_number j
+number_settle j now [] = refl
+number_settle j now (q ∷ qs) = number_settle (with_actions j (dispatch j q now)) now qs ∙ number_with j (dispatch j q now)
+
+number_fact : (j : Journal) (now : ℕ) (f : Fact) → newest_number (with_fact j now f) ≡ newest_after (newest_number j) f
+number_fact j now (fact.Request n o) = refl
+number_fact j now (fact.Opened m p d port names) = refl
+number_fact j now (fact.Failed m) = refl
+number_fact j now (fact.Closed c) = number_with (Happened now (fact.Closed c) true ∷ j) (map Lost (outstanding j c))
+number_fact j now fact.Tick = refl
+
+-- what settles in the journal
+pub record Settled (j : Journal) (now : ℕ) (f : Fact) : Type 0 where
+  pub sound : Sound (with_fact j now f)
+  pub moment : newest_moment (with_fact j now f) ≡ now
+  pub all : Settles (with_fact j now f) (step j now f) now (waiting (with_fact j now f))
+
+pub settled_so : (j : Journal) (now : ℕ) (f : Fact) → Sound j → refusal j now f ≡ None → Settled j now f
+settled_so j now f sound free =
+    let done = effected (Happened now f true ∷ j) (effects j f) (are_effects j f) in
+    let begun : Sound (with_fact j now f) = done.sound (sound_fact j now f free sound) in
+    record { sound = begun; moment = done.moment; all = all_settled (with_fact j now f) now begun done.moment }
+
+-- those that wait at the end are those of them that wait on
+still_all : (j : Journal) (now : ℕ) (f : Fact) → Settled j now f → still_waiting (step j now f) (waiting (with_fact j now f)) ≡ waiting (step j now f)
+still_all j now f so =
+    let p : Request → Bool = λ (r : Request). waits (standing (step j now f) r.number) in
+    let q : Request → Bool = λ (r : Request). waits (standing (with_fact j now f) r.number) in
+    sym (ap (filter p) so.all.quiet.requests_same ∙ filter_within p q (requests (with_fact j now f)) (λ r found h. so.all.fewer r.number h))
+
+asked_of : (s : StepState) (j : Journal) (now : ℕ) (f : Fact) → Settled j now f → Keeps s (with_fact j now f) (waiting (with_fact j now f)) → Asked (with_fact j now f) now s.waiting
+asked_of s j now f so keeps =
+    let k : Journal = with_fact j now f in
+    let back : waiting k ≡ requests_of s.waiting = sym keeps.waiting in
+    record {
+      sound = so.sound;
+      moment = so.moment;
+      apart = subst (λ qs. AreApart number_of qs) back (apart_filter number_of (λ (r : Request). waits (standing k r.number)) (requests k) so.sound.requests_apart);
+      waits_now = λ q found. waiting_in k q (subst (IsIn q) keeps.waiting found);
+      tried = keeps.tried;
+    }
+
+pub step_keeps : (router : Router) (j : Journal) (now : ℕ) (f : Fact) → StandsFor router j → refusal j now f ≡ None → Keeps (stepped router f) (step j now f) (waiting (step j now f))
+step_keeps router j now f stands free =
+    let sound : Sound j = (each stands.run).sound in
+    let k : Journal = with_fact j now f in
+    let s : StepState = with_effect (begun router) f in
+    let so : Settled j now f = settled_so j now f sound free in
+    let keeps : Keeps s k (waiting k) = fact_keeps router j now f stands sound free in
+    let start : Keeps (record { tables = s.tables; waiting = []; actions = s.actions }) k [] = record { tables = keeps.tables; waiting = refl; tried = tt; written = keeps.written } in
+    let done = over_keeps (record { tables = s.tables; waiting = []; actions = s.actions }) k now s.waiting [] (asked_of s j now f so keeps) start in
+    subst (λ qs. Keeps (stepped router f) (step j now f) qs) (still_all j now f so)
+    (subst (λ qs. Keeps (stepped router f) (settle k now qs) (still_waiting (settle k now qs) qs)) keeps.waiting done)
+
+pub step_stands : (old new : Router) (actions : List Action) (j : Journal) (now : ℕ) (f : Fact) → StandsFor old j → refusal j now f ≡ None → Becomes old new actions now f → Takes new actions j now f
+step_stands old new actions j now f stands free becomes =
+    let keeps = step_keeps old j now f stands free in
+    let so : Settled j now f = settled_so j now f (each stands.run).sound free in
+    let k : Journal = with_fact j now f in
+    let counted : step_count (step j now f) ≡ 1 + step_count j = count_settle k now (waiting k) ∙ count_with (Happened now f true ∷ j) (effects j f) in
+    let facts : new.facts ≡ step_count (step j now f) = omega (arith, becomes.facts, stands.facts, counted) in
+    record {
+      not_refused = free;
+      written = becomes.written ∙ keeps.written;
+      stands = record {
+        run = Stepped j now f stands.run free;
+        facts = facts;
+        last = becomes.last ∙ sym (so.all.quiet.moment_same ∙ so.moment);
+        newest = becomes.newest ∙ ap (λ n. newest_after n f) stands.newest ∙ sym (number_settle k now (waiting k) ∙ number_fact j now f);
+        tables = subst (λ t. Hold t (step j now f)) (sym becomes.tables) keeps.tables;
+        waiting = ap requests_of becomes.waiting ∙ keeps.waiting;
+        tried = subst (λ ws. AreTried (step j now f) ws) (sym becomes.waiting) keeps.tried;
+      };
+    }
+
+-- the three sentences, of a journal that a run gives
+pub sends_only : (j : Journal) → IsRun j → SendsOnlyOn j
+sends_only j is = λ newer before q conn s u e. allowed_at j newer before (SendOn q conn s u) is e
+
+pub refuses_only : (j : Journal) → IsRun j → RefusesOnlyWhere j
+refuses_only j is = λ newer before q e. allowed_at j newer before (Refuse q) is e
+
+-- a step that isn't refused gives such a journal
+pub step_runs : (router : Router) (j : Journal) (now : ℕ) (f : Fact) → reason_of router.facts router.last router.newest router.tables now f ≡ None → StandsFor router j → IsRun (step j now f)
+step_runs router j now f free stands = Stepped j now f stands.run (sym (reason_is router j now f stands) ∙ free)
+
+pub ok_map : {T E : Type 0} (P Q : T → Type 0) (r : Result T E) → ((x : T) → P x → Q x) → IfOk r P → IfOk r Q
+ok_map P Q (Ok x) h p = h x p
+ok_map P Q (Err e) h p = p
+
+pub ok_always : {T E : Type 0} (Q : Type 0) (r : Result T E) → Q → IfOk r (λ x. Q)
+ok_always Q (Ok x) q = q
+ok_always Q (Err e) q = tt

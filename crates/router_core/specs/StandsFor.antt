@@ -1,0 +1,42 @@
+-- Which journals a router stands for: what it keeps is what the journal says. It keeps nothing else, so that a router
+-- may forget what no later step can ask for.
+use Rattle.std.specs.Prelude.{◌≡◌, ℕ, List, map, Option, Some, None}
+use Rattle.route_events.specs.declared.fact.Fact.{Fact}
+use Rattle.route_events.specs.declared.action.Action.{Action}
+use Rattle.route_events.specs.declared.request.Request.{Request}
+use Rattle.route_events.specs.Journal.{Journal, step_count, newest_moment}
+use Rattle.route_events.specs.Requests.{newest_number, waiting}
+use Rattle.route_events.specs.Step.{IsRun, refusal, step, newest_actions}
+use Rattle.router_core.specs.declared.router.Router.{Router}
+use Rattle.router_core.specs.declared.fault.StepFault.{StepFault}
+use Rattle.router_core.specs.declared.fault.StepFault.TheVariants.{NoMemory, Refused}
+use Rattle.router_core.specs.declared.waiting.Waiting.{Waiting}
+use Rattle.router_core.specs.WaitingRequests.{AreTried}
+use Rattle.router_core.specs.Tables.{Hold}
+
+abbrev pub requests_of : List Waiting → List Request
+requests_of ws = map (λ (w : Waiting). w.request) ws
+
+pub record StandsFor (router : Router) (journal : Journal) : Type 0 where
+  -- the journal is one that a run gives
+  pub run : IsRun journal
+  -- how many steps there were, the moment of the newest, and the newest request's number
+  pub facts : router.facts ≡ step_count journal
+  pub last : router.last ≡ newest_moment journal
+  pub newest : router.newest ≡ newest_number journal
+  -- the pending attempts and the count of all, and the open connections with what is outstanding on them
+  pub tables : Hold router.tables journal
+  -- the requests that wait, and on which routes each was tried since it arrived
+  pub waiting : requests_of router.waiting ≡ waiting journal
+  pub tried : AreTried journal router.waiting
+
+-- the step isn't refused, and gives these actions and this router
+pub record Takes (new : Router) (actions : List Action) (journal : Journal) (now : ℕ) (fact : Fact) : Type 0 where
+  pub not_refused : refusal journal now fact ≡ None
+  pub written : actions ≡ newest_actions (step journal now fact)
+  pub stands : StandsFor new (step journal now fact)
+
+-- the step is refused by the first reason, and the router is as it was
+abbrev pub Refuses : Router → ℕ → Fact → StepFault → Type 0
+Refuses old now fact NoMemory = Unit {0}
+Refuses old now fact (Refused router reason) = (router ≡ old) × ((journal : Journal) → StandsFor old journal → refusal journal now fact ≡ Some reason)

@@ -1,0 +1,79 @@
+ghost use Rattle.std.specs.Prelude.{◌≡◌, is_some, if◌then◌else◌};
+ghost use Rattle.router_core.specs.Reasons.{reason_of_fact, reason_of, newest_after};
+ghost use Rattle.router_core.specs.StepStates.{attempt_among, connection_among};
+
+use crate::effect::{attempt_among, connection_among};
+use crate::tables::Tables;
+use alt_base::Moment;
+use route_events::{Fact, StepRefusal};
+
+/// The most facts that one router takes.
+pub(crate) const MOST_FACTS: u32 = 16_777_215;
+
+/// The number of the newest request after a fact.
+pub(crate) fn newest_after(newest: u32, fact: &Fact) -> u32
+    ensures { result ≡ newest_after newest fact.now }
+{
+    match fact {
+        Fact::Request { number, .. } => *number,
+        _ => newest,
+    }
+}
+
+fn unless(holds: bool, refusal: StepRefusal) -> Option<StepRefusal>
+    ensures { result ≡ (if holds then None else Some refusal) }
+{
+    if holds { None } else { Some(refusal) }
+}
+
+fn is_pending(tables: &Tables, attempt: u64) -> bool
+    ensures { result ≡ is_some (attempt_among tables.now.pending attempt) }
+{
+    attempt_among(tables.pending.as_slice(), attempt).is_some()
+}
+
+fn is_open(tables: &Tables, conn: u64) -> bool
+    ensures { result ≡ is_some (connection_among tables.now.connections conn) }
+{
+    connection_among(tables.connections.as_slice(), conn).is_some()
+}
+
+// Why a fact isn't taken, by the fact alone.
+fn reason_of_fact(newest: u32, tables: &Tables, fact: &Fact) -> Option<StepRefusal>
+    ensures { result ≡ reason_of_fact newest tables.now fact.now }
+{
+    match fact {
+        Fact::Request { number, .. } => unless(
+            newest < *number,
+            StepRefusal::NumberNotAbove { last: newest },
+        ),
+        Fact::Opened { attempt, .. } => {
+            unless(is_pending(tables, *attempt), StepRefusal::NoSuchAttempt)
+        }
+        Fact::Failed { attempt } => {
+            unless(is_pending(tables, *attempt), StepRefusal::NoSuchAttempt)
+        }
+        Fact::Closed { conn } => unless(is_open(tables, *conn), StepRefusal::NoSuchConn),
+        Fact::Tick => None,
+    }
+}
+
+/// The first reason why a step isn't taken.
+pub(crate) fn reason_of(
+    facts: u32,
+    last: u32,
+    newest: u32,
+    tables: &Tables,
+    now: Moment,
+    fact: &Fact,
+) -> Option<StepRefusal>
+    ensures { result ≡ reason_of facts last newest tables.now now.0 fact.now }
+{
+    if facts == MOST_FACTS {
+        return Some(StepRefusal::Spent { facts });
+    }
+    if now.0 < last {
+        return Some(StepRefusal::TimeBack { last: Moment(last) });
+    }
+    reason_of_fact(newest, tables, fact)
+}

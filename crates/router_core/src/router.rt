@@ -1,0 +1,121 @@
+ghost use Rattle.std.specs.Prelude.{◌≡◌, ◌≤◌, ◌<◌, ◌+◌, ◌*◌, [], ℕ, length, IfOk, IfErr};
+ghost use Rattle.router_core.specs.OpenConnections.{most_sends};
+
+use crate::StepFault;
+use crate::effect::take_fact;
+use crate::reason::{newest_after, reason_of};
+use crate::settling::settle;
+use crate::step_state::StepState;
+use crate::tables::Tables;
+use crate::waiting::Waiting;
+use alt_base::{ListOf, Moment};
+use route_events::{Actions, Fact};
+use std::alloc::Global;
+
+/// The client. It is told what happened, step by step, and answers what to do.
+#[derive(Drop)]
+pub struct Router {
+    alloc: Global,
+    facts: u32,
+    last: u32,
+    newest: u32,
+    tables: Tables,
+    waiting: ListOf<Waiting>,
+    ghost bounded: { facts ≤ 16777215 },
+    ghost few_sends: { most_sends tables.connections + length waiting ≤ facts },
+    ghost few_attempts: { tables.opened ≤ facts * 16777216 },
+}
+
+impl Router {
+    ghost use Rattle.route_events.specs.Journal.{Journal};
+    ghost use Rattle.route_events.specs.Step.{step};
+    ghost use Rattle.route_events.specs.Headline.{SendsOnlyOn, RefusesOnlyWhere, WaitsOnlyFor};
+    ghost use Rattle.router_core.specs.Becomes.{Becomes};
+    ghost use Rattle.router_core.specs.Reasons.{reason_of};
+    ghost use Rattle.router_core.specs.StandsFor.{StandsFor, Takes, Refuses};
+
+    /// A router to which nothing has happened. It takes no memory.
+    pub fn new(alloc: Global) -> Router
+        ensures { StandsFor result [] }
+    {
+        Router {
+            alloc,
+            facts: 0,
+            last: 0,
+            newest: 0,
+            tables: Tables {
+                opened: 0,
+                pending: ListOf::new(alloc),
+                connections: ListOf::new(alloc),
+            },
+            waiting: ListOf::new(alloc),
+        }
+    }
+
+    /// Takes a fact at a moment, and answers the router that goes on and the actions in order. For each journal that
+    /// the router stands for, the actions are those of the journal's step, and the new router stands for the journal
+    /// after it.
+    ///
+    /// A step is refused where 16,777,215 facts were taken, where the moment is before that of the newest step, where a
+    /// request's number isn't above the newest request's, where an attempt that ends isn't pending, and where a
+    /// connection that ends isn't open, tried in this order; the router comes back as it was. After NoMemory it is
+    /// gone.
+    pub fn step(self, now: Moment, fact: Fact) -> Result<(Router, Actions), StepFault>
+        ensures taken { IfOk result (λ r. (journal : Journal) → StandsFor self journal → Takes r.0 r.1 journal now.0 fact) }
+        ensures refused { IfErr result (λ fault. Refuses self now.0 fact fault) }
+
+        // What a client may rely on.
+        ensures sent_only_on { IfOk result (λ r. (journal : Journal) → StandsFor self journal → SendsOnlyOn (step journal now.0 fact)) }
+        ensures refused_only_where { IfOk result (λ r. (journal : Journal) → StandsFor self journal → RefusesOnlyWhere (step journal now.0 fact)) }
+        ensures waits_only_for { IfOk result (λ r. (journal : Journal) → StandsFor self journal → WaitsOnlyFor (step journal now.0 fact)) }
+    {
+        let reason = reason_of(self.facts, self.last, self.newest, &self.tables, now, &fact);
+        if let Some(refusal) = reason {
+            return Err(StepFault::Refused {
+                router: self,
+                refusal,
+            });
+        }
+        self.take(now, fact)
+    }
+
+    // A step that isn't refused.
+    fn take(self, now: Moment, fact: Fact) -> Result<(Router, Actions), StepFault>
+        requires { reason_of self.facts self.last self.newest self.tables now.0 fact ≡ None }
+        ensures ok { IfOk result (λ r. Becomes self r.0 r.1 now.0 fact) }
+        ensures err { IfErr result (λ fault. fault ≡ StepFault.NoMemory) }
+    {
+        let newest = newest_after(self.newest, &fact);
+        let Router {
+            alloc,
+            facts,
+            last: _,
+            newest: _,
+            tables,
+            waiting,
+        } = self;
+        let mut state = StepState {
+            tables,
+            waiting,
+            actions: ListOf::new(alloc),
+        };
+        take_fact(alloc, &mut state, fact)?;
+        settle(alloc, &mut state)?;
+        let StepState {
+            tables,
+            waiting,
+            actions,
+        } = state;
+        Ok((
+            Router {
+                alloc,
+                facts: facts + 1,
+                last: now.0,
+                newest,
+                tables,
+                waiting,
+            },
+            actions,
+        ))
+    }
+}
