@@ -3,4 +3,7 @@ pub mod Addresses
 pub mod HostTexts
 pub mod Hosts
 pub mod Names
+pub mod PortTexts
 pub mod Ports
+pub mod Runs
+pub mod Schemes
