@@ -37,11 +37,11 @@ count_digits (c ∷ digits) rest h none =
     let t = both (is_ascii_digit c) (list_all is_ascii_digit digits) h in
     rw t.0 (ap (λ n. n + 1) (count_digits digits rest t.1 none) ∙ plus_one (length digits))
 
-take_front : (front rest : List ℕ) → take (length front) (front ++ rest) ≡ front
+pub take_front : (front rest : List ℕ) → take (length front) (front ++ rest) ≡ front
 take_front [] rest = refl
 take_front (b ∷ front) rest = ap (λ xs. b ∷ xs) (take_front front rest)
 
-drop_front : (front rest : List ℕ) → drop (length front) (front ++ rest) ≡ rest
+pub drop_front : (front rest : List ℕ) → drop (length front) (front ++ rest) ≡ rest
 drop_front [] rest = refl
 drop_front (b ∷ front) rest = drop_front front rest
 
