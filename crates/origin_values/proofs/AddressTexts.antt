@@ -18,7 +18,7 @@ use Rattle.origin_values.specs.declared.address.Addr.TheVariants as address
 use Rattle.origin_values.proofs.Addresses.{read_addr_complete}
 
 -- what is below a bound at each place is so past the end, where 0 is read
-at_each : (n : ℕ) (xs : List ℕ) → 0 < n → AllByRecursion (λ b. b < n) xs → (k : ℕ) → get_or xs k 0 < n
+pub at_each : (n : ℕ) (xs : List ℕ) → 0 < n → AllByRecursion (λ b. b < n) xs → (k : ℕ) → get_or xs k 0 < n
 at_each n [] some h k = some
 at_each n (x ∷ xs) some h k =
     let later = at_each n xs some h.1 in
@@ -28,7 +28,7 @@ pub v4_written : (bytes : List ℕ) → AreBytes 4 bytes → SpellsV4 (ipv4_text
 v4_written bytes h = IsDotted-ipv4_text bytes h.0 (at_each (2 ^ 8) bytes (omega arith) (recursion_from_All _ bytes h.1))
 
 -- the bytes come back from their groups
-groups_of : (n : ℕ) (bytes : List ℕ) → length bytes ≡ n + n → AllByRecursion (λ b. b < 2 ^ 8) bytes
+pub groups_of : (n : ℕ) (bytes : List ℕ) → length bytes ≡ n + n → AllByRecursion (λ b. b < 2 ^ 8) bytes
     → (bytes ≡ octets_of (segments_of bytes)) × (length (segments_of bytes) ≡ n) × AllSegments (segments_of bytes)
 groups_of zero [] h small = (refl, refl, λ k. omega arith)
 groups_of zero (a ∷ bytes) h small = absurd (omega arith)

@@ -3,6 +3,7 @@ pub mod Addresses
 pub mod HostTexts
 pub mod Hosts
 pub mod Names
+pub mod OriginTexts
 pub mod Origins
 pub mod PortTexts
 pub mod Ports
