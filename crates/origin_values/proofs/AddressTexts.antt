@@ -1,5 +1,5 @@
 -- Addresses that were read are valid, and the text of a valid address spells it.
-use Rattle.std.proofs.Common.{◌≡◌, ◌⊎◌, ℕ, zero, suc, ◌+◌, ◌-◌, ◌*◌, ◌/◌, ◌%◌, ◌^◌, ◌<◌, ◌≤◌, Bool, true, false, List, [], ◌∷◌, ◌++◌, length, get_or, replicate, All, Option, Some, refl, ap, ap₂, sym, ◌∙◌, subst, arith, inl, inr, length-append}
+use Rattle.std.proofs.Common.{◌≡◌, ◌⊎◌, ℕ, zero, suc, ◌+◌, ◌-◌, ◌*◌, ◌/◌, ◌%◌, ◌^◌, ◌<◌, ◌≤◌, Bool, true, false, List, [], ◌∷◌, ◌++◌, length, get_or, replicate, All, Option, Some, None, IfSome, refl, ap, ap₂, sym, ◌∙◌, subst, arith, inl, inr, length-append}
 use Rattle.std.specs.List.{AllByRecursion}
 use Rattle.std.proofs.lemmas.List.{length-replicate}
 use Rattle.std.proofs.lemmas.List.Elements.{All-from_recursion, recursion_from_All, All-append, All-replicate, All-nil, All-cons}
@@ -15,7 +15,7 @@ use Rattle.origin_values.specs.Valid.{AreBytes, IsAddr}
 use Rattle.origin_values.specs.Written.{addr_text, v6_text}
 use Rattle.origin_values.specs.declared.address.Addr.{Addr}
 use Rattle.origin_values.specs.declared.address.Addr.TheVariants as address
-use Rattle.origin_values.proofs.Addresses.{read_addr_complete}
+use Rattle.origin_values.proofs.Addresses.{read_addr_complete, read_addr_sound}
 
 -- what is below a bound at each place is so past the end, where 0 is read
 pub at_each : (n : ℕ) (xs : List ℕ) → 0 < n → AllByRecursion (λ b. b < n) xs → (k : ℕ) → get_or xs k 0 < n
@@ -121,3 +121,8 @@ some_same a b e = cc
 
 pub one_addr : (text : List ℕ) (a b : Addr) → SpellsAddr text a → SpellsAddr text b → a ≡ b
 one_addr text a b h k = some_same a b (sym (read_addr_complete text a h) ∙ read_addr_complete text b k)
+
+-- what the reading gives is valid
+pub addr_says : (text : List ℕ) (r : Option Addr) → r ≡ read_addr text → IfSome r (λ addr. IsAddr addr)
+addr_says text (Some addr) h = addr_valid text addr (read_addr_sound text addr (sym h))
+addr_says text None h = tt

@@ -166,7 +166,7 @@ host_run (Name name) scheme port h = plain_run name scheme port (label_bytes nam
 host_run (V4 bytes) scheme port h = plain_run (ipv4_text bytes) scheme port (v4_bytes bytes h)
 host_run (V6 bytes) scheme port h = inl (record { inner = v6_text bytes; spelled = refl; first = none_close (v6_text bytes) (v6_bytes bytes h) })
 
-host_ascii : (host : Host) → IsHost host → list_all is_ascii (host_text host) ≡ true
+pub host_ascii : (host : Host) → IsHost host → list_all is_ascii (host_text host) ≡ true
 host_ascii (Name name) h = all_ascii name (label_bytes name 0 true (name_labels name name h))
 host_ascii (V4 bytes) h = all_ascii (ipv4_text bytes) (v4_bytes bytes h)
 host_ascii (V6 bytes) h = ascii_closed (v6_text bytes) (v6_bytes bytes h)
