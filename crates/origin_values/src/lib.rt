@@ -12,6 +12,8 @@ mod protos;
 mod refusal;
 mod run;
 mod scheme;
+#[cfg(test)]
+mod tests;
 
 pub use address::{Addr, same_address};
 pub use host::{Host, same_host};
