@@ -1,5 +1,5 @@
 -- Addresses that were read are valid, and the text of a valid address spells it.
-use Rattle.std.proofs.Common.{◌≡◌, ◌⊎◌, ℕ, zero, suc, ◌+◌, ◌-◌, ◌*◌, ◌/◌, ◌%◌, ◌^◌, ◌<◌, ◌≤◌, Bool, true, false, List, [], ◌∷◌, ◌++◌, length, get_or, replicate, All, Option, Some, refl, ap, ap₂, sym, ◌∙◌, subst, arith, inl, inr, length-append}
+use Rattle.std.proofs.Common.{◌≡◌, ◌⊎◌, ℕ, zero, suc, ◌+◌, ◌-◌, ◌*◌, ◌/◌, ◌%◌, ◌^◌, ◌<◌, ◌≤◌, Bool, true, false, List, [], ◌∷◌, ◌++◌, length, get_or, replicate, All, Option, Some, None, IfSome, refl, ap, ap₂, sym, ◌∙◌, subst, arith, inl, inr, length-append}
 use Rattle.std.specs.List.{AllByRecursion}
 use Rattle.std.proofs.lemmas.List.{length-replicate}
 use Rattle.std.proofs.lemmas.List.Elements.{All-from_recursion, recursion_from_All, All-append, All-replicate, All-nil, All-cons}
@@ -15,10 +15,10 @@ use Rattle.origin_values.specs.Valid.{AreBytes, IsAddr}
 use Rattle.origin_values.specs.Written.{addr_text, v6_text}
 use Rattle.origin_values.specs.declared.address.Addr.{Addr}
 use Rattle.origin_values.specs.declared.address.Addr.TheVariants as address
-use Rattle.origin_values.proofs.Addresses.{read_addr_complete}
+use Rattle.origin_values.proofs.Addresses.{read_addr_complete, read_addr_sound}
 
 -- what is below a bound at each place is so past the end, where 0 is read
-at_each : (n : ℕ) (xs : List ℕ) → 0 < n → AllByRecursion (λ b. b < n) xs → (k : ℕ) → get_or xs k 0 < n
+pub at_each : (n : ℕ) (xs : List ℕ) → 0 < n → AllByRecursion (λ b. b < n) xs → (k : ℕ) → get_or xs k 0 < n
 at_each n [] some h k = some
 at_each n (x ∷ xs) some h k =
     let later = at_each n xs some h.1 in
@@ -28,7 +28,7 @@ pub v4_written : (bytes : List ℕ) → AreBytes 4 bytes → SpellsV4 (ipv4_text
 v4_written bytes h = IsDotted-ipv4_text bytes h.0 (at_each (2 ^ 8) bytes (omega arith) (recursion_from_All _ bytes h.1))
 
 -- the bytes come back from their groups
-groups_of : (n : ℕ) (bytes : List ℕ) → length bytes ≡ n + n → AllByRecursion (λ b. b < 2 ^ 8) bytes
+pub groups_of : (n : ℕ) (bytes : List ℕ) → length bytes ≡ n + n → AllByRecursion (λ b. b < 2 ^ 8) bytes
     → (bytes ≡ octets_of (segments_of bytes)) × (length (segments_of bytes) ≡ n) × AllSegments (segments_of bytes)
 groups_of zero [] h small = (refl, refl, λ k. omega arith)
 groups_of zero (a ∷ bytes) h small = absurd (omega arith)
@@ -121,3 +121,8 @@ some_same a b e = cc
 
 pub one_addr : (text : List ℕ) (a b : Addr) → SpellsAddr text a → SpellsAddr text b → a ≡ b
 one_addr text a b h k = some_same a b (sym (read_addr_complete text a h) ∙ read_addr_complete text b k)
+
+-- what the reading gives is valid
+pub addr_says : (text : List ℕ) (r : Option Addr) → r ≡ read_addr text → IfSome r (λ addr. IsAddr addr)
+addr_says text (Some addr) h = addr_valid text addr (read_addr_sound text addr (sym h))
+addr_says text None h = tt

@@ -1,6 +1,12 @@
 pub mod AddressTexts
 pub mod Addresses
+pub mod AsciiTexts
 pub mod HostTexts
 pub mod Hosts
 pub mod Names
+pub mod OriginTexts
+pub mod Origins
+pub mod PortTexts
 pub mod Ports
+pub mod Runs
+pub mod Schemes

@@ -196,6 +196,9 @@ digits_of_label (c ∷ ds) h =
     let rest = digits_of_label ds h.1 in
     (and_from _ _ first.0 rest.0, and_from _ _ first.1 rest.1)
 
+pub digits_pass : (ds : List ℕ) → AllDigits 10 ds → list_all is_ascii_digit ds ≡ true
+digits_pass ds h = (digits_of_label ds h).0
+
 and_false : (a b : Bool) → b ≡ false → (a && b) ≡ false
 and_false true b h = h
 and_false false b h = refl

@@ -7,3 +7,4 @@ pub mod Gives
 pub mod Valid
 pub mod OriginGrammar
 pub mod OriginReading
+pub mod AsciiOrigin

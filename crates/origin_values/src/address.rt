@@ -2,6 +2,7 @@ ghost use Rattle.std.specs.Prelude.{◌≡◌, IfOk, IfSome, IfNone};
 ghost use Rattle.origin_values.specs.Equality.{addr_eq};
 ghost use Rattle.origin_values.specs.HostGrammar.{SpellsAddr};
 ghost use Rattle.origin_values.specs.HostReading.{read_v4, read_v6, read_addr};
+ghost use Rattle.origin_values.specs.Valid.{IsAddr};
 ghost use Rattle.origin_values.specs.Written.{addr_text};
 ghost use Rattle.origin_values.specs.declared.address.Addr.{Addr};
 
@@ -28,6 +29,7 @@ impl Addr {
     pub fn parse(text: &[u8]) -> Option<Addr>
         ensures reading { result ≡ read_addr text.now }
         ensures some { IfSome result (λ addr. SpellsAddr text.now addr) }
+        ensures valid { IfSome result (λ addr. IsAddr addr) }
         ensures none { IfNone result ((addr : Addr) → ¬ (SpellsAddr text.now addr)) }
     {
         match v4(text) {

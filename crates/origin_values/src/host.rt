@@ -3,6 +3,7 @@ ghost use Rattle.origin_values.specs.Equality.{host_eq};
 ghost use Rattle.origin_values.specs.Gives.{Gives, IfRefused};
 ghost use Rattle.origin_values.specs.HostGrammar.{SpellsHost, HostRefusedAt};
 ghost use Rattle.origin_values.specs.HostReading.{read_closed, read_name, read_host, host_or_refusal};
+ghost use Rattle.origin_values.specs.Valid.{IsHost};
 ghost use Rattle.origin_values.specs.Written.{host_text, v6_text};
 ghost use Rattle.origin_values.specs.declared.host.Host.TheVariants.{Name};
 
@@ -39,6 +40,7 @@ impl Host {
     pub fn parse(alloc: Global, text: &[u8]) -> Result<Host, Refused<HostRefusal>>
         ensures reading { Gives result (host_or_refusal (read_host text.now)) }
         ensures ok { IfOk result (λ host. SpellsHost text.now host) }
+        ensures valid { IfOk result (λ host. IsHost host) }
         ensures refused { IfRefused result (λ place reason. HostRefusedAt text.now place reason) }
     {
         match read_host(alloc, text)? {

@@ -2,14 +2,18 @@ ghost use Rattle.std.specs.Prelude.{◌≡◌, ℕ, List, true, ◌↔◌};
 ghost use Rattle.origin_values.specs.Equality.{scheme_eq, proto_eq, addr_eq, host_eq, origin_eq};
 ghost use Rattle.origin_values.specs.HostGrammar.{SpellsAddr, SpellsHost, HostRefusedAt, OneHost};
 ghost use Rattle.origin_values.specs.HostReading.{read_addr, read_host, host_or_refusal};
-ghost use Rattle.origin_values.specs.Valid.{IsAddr, IsHost};
-ghost use Rattle.origin_values.specs.Written.{addr_text, host_text};
+ghost use Rattle.origin_values.specs.AsciiOrigin.{SpellsAscii};
+ghost use Rattle.origin_values.specs.OriginGrammar.{SpellsOrigin, OriginRefusedAt, OneOrigin};
+ghost use Rattle.origin_values.specs.OriginReading.{read_origin};
+ghost use Rattle.origin_values.specs.Valid.{IsAddr, IsHost, IsOrigin};
+ghost use Rattle.origin_values.specs.Written.{addr_text, host_text, origin_text};
 ghost use Rattle.origin_values.specs.declared.scheme.Scheme.{Scheme};
 ghost use Rattle.origin_values.specs.declared.proto.Proto.{Proto};
 ghost use Rattle.origin_values.specs.declared.address.Addr.{Addr};
 ghost use Rattle.origin_values.specs.declared.host.Host.{Host};
 ghost use Rattle.origin_values.specs.declared.origin.Origin.{Origin};
 ghost use Rattle.origin_values.specs.declared.refusal.HostRefusal.{HostRefusal};
+ghost use Rattle.origin_values.specs.declared.refusal.OriginRefusal.{OriginRefusal};
 
 /// Each test of equality holds exactly where its two values are one.
 pub fn one_value_where_equal()
@@ -54,4 +58,30 @@ pub fn one_host()
 pub fn written_hosts_are_read_back()
     ensures spelled { (host : Host) → IsHost host → SpellsHost (host_text host) host }
     ensures back { (host : Host) → IsHost host → host_or_refusal (read_host (host_text host)) ≡ Ok host }
+{}
+
+/// What is read as an origin is spelled so, what is spelled is read, what is refused is refused so, and an origin that
+/// is spelled is in its form, with a port from 1 to 65535.
+pub fn origins_are_read()
+    ensures read { (text : List ℕ) (origin : Origin) → read_origin text ≡ Ok origin → SpellsOrigin text origin }
+    ensures spelled { (text : List ℕ) (origin : Origin) → SpellsOrigin text origin → read_origin text ≡ Ok origin }
+    ensures refused { (text : List ℕ) (place : ℕ) (reason : OriginRefusal) → OriginRefusedAt text place reason →
+        read_origin text ≡ Err (record { place = place; reason = reason }) }
+    ensures valid { (text : List ℕ) (origin : Origin) → SpellsOrigin text origin → IsOrigin origin }
+{}
+
+/// Each text spells exactly one origin or is refused at exactly one place for one reason, and never both.
+pub fn one_origin()
+    ensures { (text : List ℕ) → OneOrigin text }
+{}
+
+/// The text that an origin is written as spells it, and is read back as it.
+pub fn written_origins_are_read_back()
+    ensures spelled { (origin : Origin) → IsOrigin origin → SpellsOrigin (origin_text origin) origin }
+    ensures back { (origin : Origin) → IsOrigin origin → read_origin (origin_text origin) ≡ Ok origin }
+{}
+
+/// No text is the ASCII text of two origins.
+pub fn one_ascii_origin()
+    ensures { (text : List ℕ) (a b : Origin) → SpellsAscii text a → SpellsAscii text b → a ≡ b }
 {}

@@ -12,15 +12,18 @@ mod protos;
 mod refusal;
 mod run;
 mod scheme;
+#[cfg(test)]
+mod tests;
 
 pub use address::{Addr, same_address};
 pub use host::{Host, same_host};
 pub use laws::{
-    addresses_are_read, hosts_are_read, one_host, one_value_where_equal,
-    written_addresses_are_read_back, written_hosts_are_read_back,
+    addresses_are_read, hosts_are_read, one_ascii_origin, one_host, one_origin,
+    one_value_where_equal, origins_are_read, written_addresses_are_read_back,
+    written_hosts_are_read_back, written_origins_are_read_back,
 };
 pub use origin::{Origin, same_origin};
 pub use proto::{Proto, same_proto};
 pub use protos::Protos;
-pub use refusal::{HostRefusal, OriginRefusal};
+pub use refusal::{AsciiFault, HostRefusal, OriginRefusal};
 pub use scheme::{Scheme, default_port};

@@ -1,14 +1,19 @@
 ghost use Rattle.std.specs.Prelude.{◌≡◌, ◌++◌, ◌+◌, ◌<◌, ◌≤◌, ◌^◌, length, IfOk, OnOk};
 ghost use Rattle.std.specs.Bool.{OnTrue};
 ghost use Rattle.origin_values.specs.Equality.{origin_eq};
-ghost use Rattle.origin_values.specs.Gives.{Gives};
+ghost use Rattle.origin_values.specs.Gives.{Gives, IfRefused};
+ghost use Rattle.origin_values.specs.AsciiOrigin.{SpellsAscii};
+ghost use Rattle.origin_values.specs.OriginGrammar.{SpellsOrigin, OriginRefusedAt};
+ghost use Rattle.origin_values.specs.Valid.{IsOrigin};
+ghost use Rattle.origin_values.specs.declared.refusal.AsciiFault.{AsciiFault};
+ghost use Rattle.origin_values.specs.declared.origin.Origin.{Origin};
 ghost use Rattle.origin_values.specs.OriginReading.{begins, at_end, digits_before, read_digits, read_port, read_rest, read_origin};
 ghost use Rattle.alt_base.specs.declared.refusal.Refused.TheVariants.{At as RefusedThere};
 ghost use Rattle.origin_values.specs.Written.{scheme_text, port_text, origin_text};
 
 use crate::port::{digits_before, port_of};
-use crate::run::{host_end, read_run};
-use crate::{Host, OriginRefusal, Scheme, default_port};
+use crate::run::{host_end, is_all_ascii, read_run};
+use crate::{AsciiFault, Host, OriginRefusal, Scheme, default_port};
 use alt_base::{Duplicate, ListOf, NoMemory, Refused, Text};
 use std::alloc::Global;
 
@@ -39,14 +44,33 @@ impl Origin {
     /// after the colon where the digits' value is 0 or above 65535, and `Trailing` at the first byte left.
     pub fn parse(alloc: Global, text: &[u8]) -> Result<Origin, Refused<OriginRefusal>>
         requires { length text.now < 2 ^ 32 }
-        ensures { Gives result (read_origin text.now) }
+        ensures reading { Gives result (read_origin text.now) }
+        ensures ok { IfOk result (λ origin. SpellsOrigin text.now origin) }
+        ensures valid { IfOk result (λ origin. IsOrigin origin) }
+        ensures refused { IfRefused result (λ place reason. OriginRefusedAt text.now place reason) }
     {
-        if begins(b"http://", text) {
-            read_rest(alloc, Scheme::Http, 7, &text[7..])
-        } else if begins(b"https://", text) {
-            read_rest(alloc, Scheme::Https, 8, &text[8..])
+        read_origin(alloc, text)
+    }
+
+    /// The origin whose ASCII text this is: the one text that it is written as (RFC 6454 6.2). `NotAscii` comes where
+    /// no origin is written so.
+    pub fn parse_ascii(alloc: Global, text: &[u8]) -> Result<Origin, AsciiFault>
+        requires { length text.now < 2 ^ 32 }
+        ensures ok { IfOk result (λ origin. SpellsAscii text.now origin) }
+        ensures not_ascii { result ≡ Err AsciiFault.NotAscii → (origin : Origin) → ¬ (SpellsAscii text.now origin) }
+    {
+        if !is_all_ascii(text) {
+            return Err(AsciiFault::NotAscii);
+        }
+        let origin = match read_origin(alloc, text) {
+            Ok(origin) => origin,
+            Err(Refused::NoMemory) => return Err(AsciiFault::NoMemory),
+            Err(Refused::At { .. }) => return Err(AsciiFault::NotAscii),
+        };
+        if origin.write(alloc)?.as_slice() == text {
+            Ok(origin)
         } else {
-            Err(refused(0, OriginRefusal::BadScheme))
+            Err(AsciiFault::NotAscii)
         }
     }
 
@@ -60,6 +84,20 @@ impl Origin {
         text.extend_from_slice(self.host.write(alloc)?.as_slice())?;
         append_port(&mut text, alloc, self.scheme, self.port)?;
         Ok(ListOf::from_vec(text))
+    }
+}
+
+// The origin that a text spells.
+fn read_origin(alloc: Global, text: &[u8]) -> Result<Origin, Refused<OriginRefusal>>
+    requires { length text.now < 2 ^ 32 }
+    ensures { Gives result (read_origin text.now) }
+{
+    if begins(b"http://", text) {
+        read_rest(alloc, Scheme::Http, 7, &text[7..])
+    } else if begins(b"https://", text) {
+        read_rest(alloc, Scheme::Https, 8, &text[8..])
+    } else {
+        Err(refused(0, OriginRefusal::BadScheme))
     }
 }
 

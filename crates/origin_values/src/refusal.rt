@@ -1,3 +1,8 @@
+ghost use Rattle.std.specs.Prelude.{◌≡◌};
+ghost use Rattle.origin_values.specs.declared.refusal.AsciiFault.TheVariants.{NoMemory as NoMemoryFound};
+
+use alt_base::NoMemory;
+
 /// Why a text isn't a host. It stands at place 0.
 #[derive(Clone, Copy, Debug, PartialEq, Eq)]
 pub enum HostRefusal {
@@ -16,4 +21,20 @@ pub enum OriginRefusal {
     BadPort,
     /// Something follows: at the first byte left.
     Trailing,
+}
+
+/// Why no origin came of a text that was to be an origin's ASCII text.
+#[derive(Clone, Copy, Debug, PartialEq, Eq)]
+pub enum AsciiFault {
+    NoMemory,
+    /// No origin is written as the text.
+    NotAscii,
+}
+
+impl From<NoMemory> for AsciiFault {
+    ghost from_gives = { λ _ e. e ≡ NoMemoryFound };
+
+    fn from(_: NoMemory) -> Self {
+        AsciiFault::NoMemory
+    }
 }

@@ -81,7 +81,7 @@ fn read_mapped(alloc: Global, mapped: &[u8]) -> Result<Option<Host>, NoMemory>
     read_host(alloc, mapped)
 }
 
-fn is_all_ascii(run: &[u8]) -> bool
+pub(crate) fn is_all_ascii(run: &[u8]) -> bool
     ensures { result ≡ list_all is_ascii run.now }
 {
     run.iter().all(|b| *b < 128)

@@ -3,6 +3,7 @@ use Rattle.origin_values.specs.HostReading.{read_addr}
 use Rattle.origin_values.specs.declared.address.Addr.{Addr}
 use Rattle.origin_values.specs.declared.address.Addr.TheVariants.{V4}
 use Rattle.origin_values.proofs.Addresses.{read_addr_says}
+use Rattle.origin_values.proofs.AddressTexts.{addr_says}
 use Rattle.origin_values.proofs.address.Addr.parse.Goals as goal
 
 pub returns-in-Some-clause-some : goal.returns-in-Some-clause-some
@@ -13,3 +14,6 @@ returns-in-None-clause-some c = let e : c.map.result ≡ read_addr c.args.text.n
 
 pub returns-in-None-clause-none : goal.returns-in-None-clause-none
 returns-in-None-clause-none c = let e : c.map.result ≡ read_addr c.args.text.now = search rules in (read_addr_says c.args.text.now c.map.result e).1
+
+pub returns-in-None-clause-valid : goal.returns-in-None-clause-valid
+returns-in-None-clause-valid c = let e : c.map.result ≡ read_addr c.args.text.now = search rules in addr_says c.args.text.now c.map.result e
