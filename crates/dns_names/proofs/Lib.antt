@@ -1,0 +1,6 @@
+pub mod Numbers
+pub mod WireSteps
+pub mod WireSays
+pub mod WireLoop
+pub mod WireSpelled
+pub mod NamesOf
