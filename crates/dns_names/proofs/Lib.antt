@@ -4,3 +4,5 @@ pub mod WireSays
 pub mod WireLoop
 pub mod WireSpelled
 pub mod NamesOf
+pub mod WireNames
+pub mod WireWriting

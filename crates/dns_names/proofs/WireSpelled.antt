@@ -88,7 +88,9 @@ up_to : (p : ℕ) (x front : List ℕ) (name : List (List ℕ)) → FrontSpells 
 up_to p x front name s = spelled_reads p (p + length front) x name (record { front = front; spelled = s; end = refl })
 
 same_ok : (name name' : List (List ℕ)) (q q' : ℕ) → (let a : WireAnswer = Ok (name, q) in a) ≡ Ok (name', q') → (name ≡ name') × (q ≡ q')
-same_ok name name' q q' e = (cc, cc)
+same_ok name name' q q' e =
+    let h : (let a : List (List ℕ) × ℕ = (name, q) in a) ≡ (let b : List (List ℕ) × ℕ = (name', q') in b) = cc in
+    (ap (λ (a : List (List ℕ) × ℕ). a.0) h, ap (λ (a : List (List ℕ) × ℕ). a.1) h)
 
 pub same_refused : (q q' : ℕ) (reason reason' : NameRefusal) → (let a : WireAnswer = refused q reason in a) ≡ refused q' reason' → (q ≡ q') × (reason ≡ reason')
 same_refused q q' reason reason' e =

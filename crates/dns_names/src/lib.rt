@@ -1,9 +1,11 @@
 //! Names of the domain name system: on the wire (RFC 1035 3.1) and in text (RFC 1035 5.1).
 #![tactic(auto)]
 
+mod laws;
 mod name;
 mod refusal;
 mod wire;
 
+pub use laws::{one_wire_name, wire_means, wire_names, wire_reads_back};
 pub use name::Name;
 pub use refusal::NameRefusal;

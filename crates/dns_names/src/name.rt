@@ -1,10 +1,11 @@
 ghost use Rattle.std.specs.Prelude.{◌≡◌, ◌≤◌, ◌<◌, ◌^◌, ◌+◌, length, drop, IfOk};
-ghost use Rattle.dns_names.specs.Answers.{Answers};
-ghost use Rattle.dns_names.specs.Names.{IsName};
+ghost use Rattle.dns_names.specs.Answers.{Answers, IfRefused};
+ghost use Rattle.dns_names.specs.Names.{wire_form, IsName};
+ghost use Rattle.dns_names.specs.WireGrammar.{SpellsUpTo, WireRefusedAt};
 ghost use Rattle.dns_names.specs.WireReading.{read_wire};
 
 use crate::NameRefusal;
-use crate::wire::read_labels;
+use crate::wire::{read_labels, write_labels};
 use alt_base::{Bytes, Duplicate, ListOf, NoMemory, Refused};
 use std::alloc::Global;
 use std::marker::Model;
@@ -43,10 +44,24 @@ impl Name {
         requires within { place ≤ length input.now }
         requires small { length input.now < 2 ^ 32 }
         ensures reading { Answers result (read_wire place (drop place input.now)) }
+        ensures spelled { IfOk result (λ answer. SpellsUpTo place (drop place input.now) answer.0 answer.1) }
+        ensures refused { IfRefused result (WireRefusedAt place (drop place input.now)) }
         ensures name { IfOk result (λ answer. IsName answer.0) }
     {
         let (labels, end) = read_labels(alloc, &input[place as usize..], place)?;
         Ok((Name { labels }, end))
+    }
+
+    /// The wire form (RFC 1035 3.1), without compression.
+    pub fn to_wire(&self, alloc: Global) -> Result<Bytes, NoMemory>
+        ensures written { IfOk result (λ octets. octets ≡ wire_form self.now) }
+        ensures read_back { IfOk result (λ octets. read_wire 0 octets ≡ Ok (self.now, length octets)) }
+        ensures name { IsName self.now }
+    {
+        Ok(ListOf::from_vec(write_labels(
+            alloc,
+            self.labels.as_slice(),
+        )?))
     }
 }
 

@@ -1,6 +1,7 @@
 ghost use Rattle.std.specs.Prelude.{◌≡◌, ◌≤◌, ◌<◌, ◌^◌, ◌+◌, length, take, drop, IfOk};
 ghost use Rattle.std.specs.Str.{str_to_ascii_lowercase};
 ghost use Rattle.dns_names.specs.Answers.{Answers};
+ghost use Rattle.dns_names.specs.Names.{AreSized, wire_form};
 ghost use Rattle.dns_names.specs.WireReading.{begins_with, read_wire};
 
 use crate::NameRefusal;
@@ -82,4 +83,18 @@ pub(crate) fn read_labels(alloc: Global, octets: &[u8], place: u32) -> Result<(L
             }
         }
     }
+}
+
+/// The wire form of labels.
+pub(crate) fn write_labels(alloc: Global, labels: &[Bytes]) -> Result<Vec<u8>, NoMemory>
+    requires { AreSized labels.now }
+    ensures { IfOk result (λ octets. octets.items ≡ wire_form labels.now) }
+{
+    let mut octets = Vec::new(alloc);
+    for label in labels {
+        octets.push(label.len() as u8)?;
+        octets.extend_from_slice(label.as_slice())?;
+    }
+    octets.push(0)?;
+    Ok(octets)
 }
