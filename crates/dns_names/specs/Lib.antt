@@ -2,3 +2,6 @@ pub mod Names
 pub mod Answers
 pub mod WireGrammar
 pub mod WireReading
+pub mod TextParts
+pub mod TextGrammar
+pub mod TextReading

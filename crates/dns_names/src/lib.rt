@@ -4,6 +4,7 @@
 mod laws;
 mod name;
 mod refusal;
+mod token;
 mod wire;
 
 pub use laws::{one_wire_name, wire_means, wire_names, wire_reads_back};
