@@ -6,3 +6,10 @@ pub mod WireSpelled
 pub mod NamesOf
 pub mod WireNames
 pub mod WireWriting
+pub mod TextTokens
+pub mod TextSteps
+pub mod TextSays
+pub mod TextSpelled
+pub mod TextLoop
+pub mod TextNames
+pub mod TextWriting

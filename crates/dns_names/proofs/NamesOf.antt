@@ -23,7 +23,7 @@ pub bytes_back : (xs ys : List ℕ) → AreBytes (xs ++ ys) → AreBytes ys
 bytes_back [] ys h = h
 bytes_back (b ∷ bs) ys h = bytes_back bs ys h.1
 
-lower_bound : (b : ℕ) → b < 256 → to_ascii_lowercase b < 256
+pub lower_bound : (b : ℕ) → b < 256 → to_ascii_lowercase b < 256
 lower_bound b h = grind (arith, lowercase_is)
 
 pub name_bytes : (label : List ℕ) → AreBytes label → AreNameBytes (str_to_ascii_lowercase label)

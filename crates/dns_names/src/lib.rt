@@ -4,6 +4,8 @@
 mod laws;
 mod name;
 mod refusal;
+mod text;
+mod text_writer;
 mod token;
 mod wire;
 
