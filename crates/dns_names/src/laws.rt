@@ -1,6 +1,9 @@
 ghost use Rattle.std.specs.Prelude.{◌≡◌, ◌+◌, ◌++◌, ℕ, List, length, Ok};
 ghost use Rattle.dns_names.specs.Answers.{refused};
 ghost use Rattle.dns_names.specs.Names.{AreBytes, IsName, wire_form};
+ghost use Rattle.dns_names.specs.TextGrammar.{SpellsText, TextRefusedAt, OneTextName};
+ghost use Rattle.dns_names.specs.TextParts.{text_form};
+ghost use Rattle.dns_names.specs.TextReading.{read_text};
 ghost use Rattle.dns_names.specs.WireGrammar.{SpellsWire, SpellsUpTo, WireRefusedAt, OneWireName};
 ghost use Rattle.dns_names.specs.WireReading.{read_wire};
 ghost use Rattle.dns_names.specs.declared.refusal.NameRefusal.{NameRefusal};
@@ -36,5 +39,33 @@ pub fn wire_reads_back()
     ensures spelled { (name : List (List ℕ)) → IsName name → SpellsWire (wire_form name) name }
     ensures read { (p : ℕ) (name : List (List ℕ)) (rest : List ℕ) → IsName name
         → read_wire p (wire_form name ++ rest) ≡ Ok (name, p + length (wire_form name)) }
+{
+}
+
+/// What the reading of a text says is what its grammar says (RFC 1035 5.1).
+pub fn text_means()
+    ensures ok { (x : List ℕ) (name : List (List ℕ)) → read_text x ≡ Ok name → SpellsText x name }
+    ensures err { (q : ℕ) (reason : NameRefusal) (x : List ℕ) → read_text x ≡ refused q reason → TextRefusedAt x q reason }
+    ensures spelled { (x : List ℕ) (name : List (List ℕ)) → SpellsText x name → read_text x ≡ Ok name }
+    ensures refused { (q : ℕ) (reason : NameRefusal) (x : List ℕ) → TextRefusedAt x q reason → read_text x ≡ refused q reason }
+{
+}
+
+/// Any text spells exactly one name, or is refused at exactly one place, and never both.
+pub fn one_text_name()
+    ensures { (x : List ℕ) → OneTextName x }
+{
+}
+
+/// What a text spells is a name.
+pub fn text_names()
+    ensures { (x : List ℕ) (name : List (List ℕ)) → SpellsText x name → IsName name }
+{
+}
+
+/// What is written for a name spells it, and is read back.
+pub fn text_reads_back()
+    ensures spelled { (name : List (List ℕ)) → IsName name → SpellsText (text_form name) name }
+    ensures read { (name : List (List ℕ)) → IsName name → read_text (text_form name) ≡ Ok name }
 {
 }

@@ -9,6 +9,9 @@ mod text_writer;
 mod token;
 mod wire;
 
-pub use laws::{one_wire_name, wire_means, wire_names, wire_reads_back};
+pub use laws::{
+    one_text_name, one_wire_name, text_means, text_names, text_reads_back, wire_means, wire_names,
+    wire_reads_back,
+};
 pub use name::Name;
 pub use refusal::NameRefusal;

@@ -1,12 +1,15 @@
 ghost use Rattle.std.specs.Prelude.{◌≡◌, ◌≤◌, ◌<◌, ◌^◌, ◌+◌, length, drop, IfOk};
 ghost use Rattle.dns_names.specs.Answers.{Answers, IfRefused};
 ghost use Rattle.dns_names.specs.Names.{wire_form, IsName};
+ghost use Rattle.dns_names.specs.TextGrammar.{SpellsText, TextRefusedAt};
+ghost use Rattle.dns_names.specs.TextParts.{text_form};
+ghost use Rattle.dns_names.specs.TextReading.{read_text};
 ghost use Rattle.dns_names.specs.WireGrammar.{SpellsUpTo, WireRefusedAt};
 ghost use Rattle.dns_names.specs.WireReading.{read_wire};
 
 use crate::NameRefusal;
-use crate::wire::{read_labels, write_labels};
-use alt_base::{Bytes, Duplicate, ListOf, NoMemory, Refused};
+use crate::{text, text_writer, wire};
+use alt_base::{Bytes, Duplicate, ListOf, NoMemory, Refused, Text};
 use std::alloc::Global;
 use std::marker::Model;
 
@@ -39,7 +42,12 @@ impl Name {
         self.labels.as_slice()
     }
 
-    /// The name at a place of some octets (RFC 1035 3.1), and the place after it.
+    /// The name at a place of some octets (RFC 1035 3.1), its letters in lower case, and the place after it. The place
+    /// is at most the length, which is below 2^32; places of refusals count from the front of the octets.
+    ///
+    /// From left to right: `Short` at the length where the octets end first; at a length octet `Compressed` from 192,
+    /// `LabelTooLong` from 64, `NameTooLong` where the name with this label and the final 0 would pass 255 octets; at
+    /// one octet in that order, and then `Short` for a label that is cut off.
     pub fn from_wire(alloc: Global, input: &[u8], place: u32) -> Result<(Name, u32), Refused<NameRefusal>>
         requires within { place ≤ length input.now }
         requires small { length input.now < 2 ^ 32 }
@@ -48,7 +56,7 @@ impl Name {
         ensures refused { IfRefused result (WireRefusedAt place (drop place input.now)) }
         ensures name { IfOk result (λ answer. IsName answer.0) }
     {
-        let (labels, end) = read_labels(alloc, &input[place as usize..], place)?;
+        let (labels, end) = wire::read_labels(alloc, &input[place as usize..], place)?;
         Ok((Name { labels }, end))
     }
 
@@ -58,7 +66,38 @@ impl Name {
         ensures read_back { IfOk result (λ octets. read_wire 0 octets ≡ Ok (self.now, length octets)) }
         ensures name { IsName self.now }
     {
-        Ok(ListOf::from_vec(write_labels(
+        Ok(ListOf::from_vec(wire::write_labels(
+            alloc,
+            self.labels.as_slice(),
+        )?))
+    }
+
+    /// The name that a whole text spells (RFC 1035 5.1), its letters in lower case: a dot alone is the root, else labels
+    /// joined by dots, with a final dot or without. The text has fewer than 2^32 bytes.
+    ///
+    /// From left to right: `BadEscape` at a backslash that neither three digits of a byte's value follow nor a byte 0x21
+    /// to 0x7E that is no digit; `BadByte` at a raw byte outside 0x21 to 0x7E; at the end of a label `EmptyLabel`,
+    /// `LabelTooLong` or `NameTooLong`, in that order, at the place of the label's first byte. The empty text is
+    /// `EmptyLabel` at 0.
+    pub fn from_text(alloc: Global, text: &[u8]) -> Result<Name, Refused<NameRefusal>>
+        requires { length text.now < 2 ^ 32 }
+        ensures reading { Answers result (read_text text.now) }
+        ensures spelled { IfOk result (SpellsText text.now) }
+        ensures refused { IfRefused result (TextRefusedAt text.now) }
+        ensures name { IfOk result IsName }
+    {
+        let labels = text::read_labels(alloc, text)?;
+        Ok(Name { labels })
+    }
+
+    /// The text with its final dot (RFC 1035 5.1): shown bytes stand raw, the special ones behind a backslash, all others
+    /// as a backslash and three digits.
+    pub fn to_text(&self, alloc: Global) -> Result<Text, NoMemory>
+        ensures written { IfOk result (λ text. text ≡ text_form self.now) }
+        ensures read_back { IfOk result (λ text. read_text text ≡ Ok self.now) }
+        ensures name { IsName self.now }
+    {
+        Ok(ListOf::from_vec(text_writer::write_labels(
             alloc,
             self.labels.as_slice(),
         )?))
