@@ -1,4 +1,8 @@
-ghost use Rattle.std.specs.Prelude.{◌≡◌, ◌≤◌, ◌<◌, ◌^◌, ◌+◌, length, drop, IfOk};
+ghost use Rattle.std.specs.Prelude.{◌≡◌, ◌≤◌, ◌<◌, ◌^◌, ◌+◌, length, drop, nat_eq, IfOk};
+ghost use Rattle.std.specs.Cmp.{partial_equiv_from_equiv};
+ghost use Rattle.std.specs.Cmp.Lexicographic.{pointwise, lists_equiv, nat_list_eq_equiv, bytes_decides};
+ghost use Rattle.std.specs.Hash.{items_Alike, same_Alike};
+ghost use Rattle.std.specs.Hash as fed;
 ghost use Rattle.dns_names.specs.Answers.{Answers, IfRefused};
 ghost use Rattle.dns_names.specs.Names.{wire_form, IsName};
 ghost use Rattle.dns_names.specs.TextGrammar.{SpellsText, TextRefusedAt};
@@ -11,11 +15,12 @@ use crate::NameRefusal;
 use crate::{text, text_writer, wire};
 use alt_base::{Bytes, Duplicate, ListOf, NoMemory, Refused, Text};
 use std::alloc::Global;
+use std::hash::{Hash, Hasher};
 use std::marker::Model;
 
 /// A name of the domain name system: labels of 1 to 63 bytes, without upper-case ASCII letters, at most 255 octets on
 /// the wire. To a contract it is the list of its labels, each a list of bytes; the root has none.
-#[derive(Debug, PartialEq, Eq, Hash, Drop)]
+#[derive(Debug, Drop)]
 pub struct Name {
     labels: ListOf<Bytes>,
 }
@@ -29,8 +34,6 @@ impl Model for Name {
     ghost view = { λ name. name.labels };
 
     ghost invariant = { λ name. IsName name.labels };
-
-    ghost inverse = { λ labels. record { labels = labels } };
 }
 
 impl Name {
@@ -101,6 +104,30 @@ impl Name {
             alloc,
             self.labels.as_slice(),
         )?))
+    }
+}
+
+impl PartialEq for Name {
+    ghost eq = { pointwise (pointwise nat_eq) };
+
+    ghost laws = { partial_equiv_from_equiv (lists_equiv nat_list_eq_equiv) };
+
+    fn eq(&self, other: &Self) -> bool {
+        self.labels == other.labels
+    }
+}
+
+impl Eq for Name {
+    ghost laws = { lists_equiv nat_list_eq_equiv };
+}
+
+impl Hash for Name {
+    ghost hash_input = { fed.slice (fed.slice fed.u8) };
+
+    ghost respects_eq = { (items_Alike (same_Alike (fed.slice fed.u8) bytes_decides)).fed };
+
+    fn hash<H: Hasher>(&self, state: &mut H) {
+        self.labels.hash(state);
     }
 }
 
