@@ -54,7 +54,7 @@ label_read text rest labels new label copy used start place count is token size 
     let named : new ≡ labels ++ label ∷ [] = pushed ∙ ap (λ l. labels ++ l ∷ []) twin in
     let no_fault : label_fault (length (labels_octets labels)) (length label) ≡ None = subst (λ n. label_fault n (length label) ≡ None) read.octets (subst (λ n. label_fault used n ≡ None) size fault) in
     let on : reads labels label start place (drop place text) ≡ reads (labels ++ label ∷ []) [] (place + 1) (place + 1) (drop 1 (drop place text)) =
-      reads_token Dot labels label start place (drop place text) there.1 ∙ ap (λ f. by_fault f start (reads (labels ++ label ∷ []) [] (place + 1) (place + 1) (drop 1 (drop place text)))) no_fault in
+    reads_token Dot labels label start place (drop place text) there.1 ∙ ap (λ f. by_fault f start (reads (labels ++ label ∷ []) [] (place + 1) (place + 1) (drop 1 (drop place text)))) no_fault in
     record {
       within = omega (arith, ap length more.1, length-drop place text, read.within);
       before = omega arith;

@@ -184,17 +184,17 @@ byte_says k x rest labels parts start at byte count next goes place here within 
     let some = part_some s.part in
     let goes_on = part_goes x s.more labels parts s.part (text_same x rest (part_text s.part ++ s.more) labels parts goes s.text) s.valid in
     rw left (subst (λ l. TextSays x (read_tokens k (map label_of labels) l start (at + count) s.more)) pushed
-      (next labels (parts ++ s.part ∷ []) start (at + count) s.more goes_on place (omega (arith, here, size, s.count_is)) (omega (arith, within, some, ap length s.text, length-append (part_text s.part) s.more))))
+    (next labels (parts ++ s.part ∷ []) start (at + count) s.more goes_on place (omega (arith, here, size, s.count_is)) (omega (arith, within, some, ap length s.text, length-append (part_text s.part) s.more))))
 
 dot_says : (k : ℕ) (x rest more : List ℕ) (labels : List (List Part)) (parts : List Part) (start at : ℕ) → NextSays k x → x ≢ 46 ∷ [] → TextGoesOn x labels parts rest → start ≡ length (dotted labels) → at ≡ start + length (parts_text parts) → length rest ≤ suc k → rest ≡ 46 ∷ more
     → TextSays x (label_ends (map label_of labels) (label_of parts) start (read_tokens k (map label_of labels ++ label_of parts ∷ []) [] (at + 1) (at + 1) (drop 1 rest)))
 dot_says k x rest more labels parts start at next no_root goes place here within is =
     let there = text_same x rest (46 ∷ more) labels parts goes is in
     let count : length (dotted (labels ++ parts ∷ [])) ≡ length (dotted labels) + (length (parts_text parts) + 1) =
-      ap length (dotted_push labels parts) ∙ length-append (dotted labels) (parts_text parts ++ 46 ∷ []) ∙ ap (λ n. length (dotted labels) + n) (length-append (parts_text parts) (46 ∷ [])) in
+    ap length (dotted_push labels parts) ∙ length-append (dotted labels) (parts_text parts ++ 46 ∷ []) ∙ ap (λ n. length (dotted labels) + n) (length-append (parts_text parts) (46 ∷ [])) in
     ended_says x rest labels parts start _ goes (inr (more, is)) place (λ h. inr (more, is, no_root)) (λ room.
-      rw is (subst (λ ls. TextSays x (read_tokens k ls [] (at + 1) (at + 1) more)) (map_push label_of labels parts)
-        (next (labels ++ parts ∷ []) [] (at + 1) (at + 1) more (dot_goes x more labels parts there room) (omega (arith, count, place, here)) (omega arith) (omega (arith, within, ap length is)))))
+    rw is (subst (λ ls. TextSays x (read_tokens k ls [] (at + 1) (at + 1) more)) (map_push label_of labels parts)
+    (next (labels ++ parts ∷ []) [] (at + 1) (at + 1) more (dot_goes x more labels parts there room) (omega (arith, count, place, here)) (omega arith) (omega (arith, within, ap length is)))))
 
 step_says : (k : ℕ) (x rest : List ℕ) (labels : List (List Part)) (parts : List Part) (start at : ℕ) (t : Token) → NextSays k x → x ≢ 46 ∷ [] → TextGoesOn x labels parts rest → start ≡ length (dotted labels) → at ≡ start + length (parts_text parts) → length rest ≤ suc k → TokenSays rest t
     → TextSays x (read_by t (map label_of labels) (label_of parts) start at rest (read_tokens k))

@@ -73,6 +73,7 @@ three_says a b c rest false digit is =
   where
     b_rest : List ℕ
     b_rest = a ∷ b ∷ c ∷ rest
+
     same : (a' b' c' : ℕ) (more : List ℕ) → a ∷ b ∷ c ∷ rest ≡ a' ∷ b' ∷ c' ∷ more → IsPart (Decimal a' b' c') → is_decimal a b c ≡ true
     same a' b' c' more e valid =
         let p : a ≡ a' = cc in
@@ -135,6 +136,7 @@ no_dot_slash xs ys e = absurd (apart (heads e))
   where
     heads : 92 ∷ xs ≡ 46 ∷ ys → nat_eq 92 46 ≡ true
     heads e = let h : 92 ≡ 46 = cc in subst (λ n. nat_eq 92 n ≡ true) h refl
+
     apart : nat_eq 92 46 ≡ true → ⊥
     apart h = cc
 
@@ -149,6 +151,7 @@ token_bad_escape rest none = by_token (escape_at rest) (escape_says rest)
     by_stop Compressed s = absurd s
     by_stop Short s = absurd s
     by_stop EmptyLabel s = absurd s
+
     by_token : (t : Token) → TokenSays (92 ∷ rest) t → t ≡ Stop BadEscape
     by_token End s = cc
     by_token Dot s = no_dot_slash rest s.0 s.1

@@ -14,7 +14,7 @@ pub dots_more : (labels : List (List ℕ)) (i : ℕ) (label slice text written n
     → new ≡ dotted (map (map part_of) (take (i + 1) labels))
 dots_more labels i label slice text written new h is same so_far pushed dot =
     let more : map (map part_of) (take (i + 1) labels) ≡ map (map part_of) (take i labels) ++ map part_of label ∷ [] =
-      ap (λ ls. map (map part_of) ls) (take_more labels i label h) ∙ map_push (map part_of) (take i labels) (get_or labels i label) ∙ ap (λ l. map (map part_of) (take i labels) ++ map part_of l ∷ []) (sym is) in
+    ap (λ ls. map (map part_of) ls) (take_more labels i label h) ∙ map_push (map part_of) (take i labels) (get_or labels i label) ∙ ap (λ l. map (map part_of) (take i labels) ++ map part_of l ∷ []) (sym is) in
     dot ∙ ap (λ xs. xs ++ 46 ∷ []) (pushed ∙ ap (λ xs. xs ++ parts_text (map part_of slice)) so_far ∙ ap (λ l. dotted (map (map part_of) (take i labels)) ++ parts_text (map part_of l)) same)
     ∙ append_assoc (dotted (map (map part_of) (take i labels))) (parts_text (map part_of label)) (46 ∷ [])
     ∙ sym (dotted_push (map (map part_of) (take i labels)) (map part_of label)) ∙ ap dotted (sym more)

@@ -108,14 +108,14 @@ label_says : (k p n used : ℕ) (x rest : List ℕ) (labels : List (List ℕ)) �
 label_says k p n used x rest labels next goes count within room whole =
     let more = label_goes n used x rest labels goes count room whole in
     subst (λ ls. Says p x (read_labels k p (used + suc n) ls (drop n rest))) (map_push str_to_ascii_lowercase labels (take n rest))
-      (next (used + suc n) (drop n rest) (labels ++ take n rest ∷ []) more.0 more.1 (omega (arith, length-drop n rest, within)))
+    (next (used + suc n) (drop n rest) (labels ++ take n rest ∷ []) more.0 more.1 (omega (arith, length-drop n rest, within)))
 
 step_says : (k p used : ℕ) (x rest : List ℕ) (labels : List (List ℕ)) (b : Begins) → NextSays k p x → GoesOn x labels rest → used ≡ length (labels_octets labels) → length rest ≤ suc k → BeginSays used rest b
     → Says p x (read_by b p used (map str_to_ascii_lowercase labels) rest (read_labels k p))
 step_says k p used x rest labels End next goes count within h = end_says p used x h.0 labels (goes_same x rest (0 ∷ h.0) labels goes h.1) count
 step_says k p used x rest labels (Label n) next goes count within h =
     subst (λ xs. Says p x (read_labels k p (used + suc n) (map str_to_ascii_lowercase labels ++ str_to_ascii_lowercase (take n (drop 1 xs)) ∷ []) (drop (suc n) xs))) (sym h.1)
-      (label_says k p n used x h.0 labels next (goes_same x rest (n ∷ h.0) labels goes h.1) count (omega (arith, within, ap length h.1)) h.2 h.3)
+    (label_says k p n used x h.0 labels next (goes_same x rest (n ∷ h.0) labels goes h.1) count (omega (arith, within, ap length h.1)) h.2 h.3)
 step_says k p used x rest labels (Stop reason) next goes count within h = stop_says p used h.0 x h.1 labels reason (goes_same x rest (h.0 ∷ h.1) labels goes h.2) count h.3
 step_says k p used x rest labels Cut next goes count within h = short_says p used x rest labels goes count (cut_label labels used rest count h)
 

@@ -4,6 +4,8 @@
 mod laws;
 mod name;
 mod refusal;
+#[cfg(test)]
+mod tests;
 mod text;
 mod text_writer;
 mod token;

@@ -11,8 +11,7 @@ ghost use Rattle.dns_names.specs.TextReading.{read_text};
 ghost use Rattle.dns_names.specs.WireGrammar.{SpellsUpTo, WireRefusedAt};
 ghost use Rattle.dns_names.specs.WireReading.{read_wire};
 
-use crate::NameRefusal;
-use crate::{text, text_writer, wire};
+use crate::{NameRefusal, text, text_writer, wire};
 use alt_base::{Bytes, Duplicate, ListOf, NoMemory, Refused, Text};
 use std::alloc::Global;
 use std::hash::{Hash, Hasher};
@@ -51,7 +50,11 @@ impl Name {
     /// From left to right: `Short` at the length where the octets end first; at a length octet `Compressed` from 192,
     /// `LabelTooLong` from 64, `NameTooLong` where the name with this label and the final 0 would pass 255 octets; at
     /// one octet in that order, and then `Short` for a label that is cut off.
-    pub fn from_wire(alloc: Global, input: &[u8], place: u32) -> Result<(Name, u32), Refused<NameRefusal>>
+    pub fn from_wire(
+        alloc: Global,
+        input: &[u8],
+        place: u32,
+    ) -> Result<(Name, u32), Refused<NameRefusal>>
         requires within { place ≤ length input.now }
         requires small { length input.now < 2 ^ 32 }
         ensures reading { Answers result (read_wire place (drop place input.now)) }
@@ -69,10 +72,7 @@ impl Name {
         ensures read_back { IfOk result (λ octets. read_wire 0 octets ≡ Ok (self.now, length octets)) }
         ensures name { IsName self.now }
     {
-        Ok(ListOf::from_vec(wire::write_labels(
-            alloc,
-            self.labels.as_slice(),
-        )?))
+        Ok(ListOf::from_vec(wire::write_labels(alloc, self.labels.as_slice())?))
     }
 
     /// The name that a whole text spells (RFC 1035 5.1), its letters in lower case: a dot alone is the root, else labels
@@ -100,10 +100,7 @@ impl Name {
         ensures read_back { IfOk result (λ text. read_text text ≡ Ok self.now) }
         ensures name { IsName self.now }
     {
-        Ok(ListOf::from_vec(text_writer::write_labels(
-            alloc,
-            self.labels.as_slice(),
-        )?))
+        Ok(ListOf::from_vec(text_writer::write_labels(alloc, self.labels.as_slice())?))
     }
 }
 

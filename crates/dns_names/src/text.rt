@@ -32,7 +32,12 @@ fn label_fault(used: usize, count: usize) -> Option<NameRefusal>
 }
 
 // The labels of a text that ends, maybe with a label more that began at a place.
-fn text_ends(labels: ListOf<Bytes>, label: Bytes, used: usize, start: u32) -> Result<ListOf<Bytes>, Refused<NameRefusal>>
+fn text_ends(
+    labels: ListOf<Bytes>,
+    label: Bytes,
+    used: usize,
+    start: u32,
+) -> Result<ListOf<Bytes>, Refused<NameRefusal>>
     requires octets { used ≡ length (labels_octets labels) }
     requires most { used ≤ 255 }
     ensures { Answers result (text_ends labels label start) }

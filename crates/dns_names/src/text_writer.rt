@@ -8,7 +8,14 @@ use std::alloc::Global;
 fn is_special(byte: u8) -> bool
     ensures { result ≡ is_special byte }
 {
-    byte == b'"' || byte == b'$' || byte == b'(' || byte == b')' || byte == b'.' || byte == b';' || byte == b'@' || byte == b'\\'
+    byte == b'"'
+        || byte == b'$'
+        || byte == b'('
+        || byte == b')'
+        || byte == b'.'
+        || byte == b';'
+        || byte == b'@'
+        || byte == b'\\'
 }
 
 // Appends what is written for a byte.

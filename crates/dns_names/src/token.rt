@@ -85,7 +85,9 @@ fn decimal_byte(hundreds: u8, tens: u8, ones: u8) -> Option<u8>
     if !tens.is_ascii_digit() || !ones.is_ascii_digit() {
         return None;
     }
-    let value = 100 * u32::from(hundreds - b'0') + 10 * u32::from(tens - b'0') + u32::from(ones - b'0');
+    let value = 100 * u32::from(hundreds - b'0')
+        + 10 * u32::from(tens - b'0')
+        + u32::from(ones - b'0');
     if value > 255 {
         return None;
     }

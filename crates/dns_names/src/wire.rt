@@ -55,7 +55,11 @@ fn label_of(alloc: Global, rest: &[u8], count: usize) -> Result<Bytes, NoMemory>
 }
 
 /// The labels of the name at the front of some octets, which begin at a place, and the place after it.
-pub(crate) fn read_labels(alloc: Global, octets: &[u8], place: u32) -> Result<(ListOf<Bytes>, u32), Refused<NameRefusal>>
+pub(crate) fn read_labels(
+    alloc: Global,
+    octets: &[u8],
+    place: u32,
+) -> Result<(ListOf<Bytes>, u32), Refused<NameRefusal>>
     requires { place + length octets.now < 2 ^ 32 }
     ensures { Answers result (read_wire place octets.now) }
 {

@@ -22,7 +22,7 @@ loop-labels-smaller-in-Byte c =
 pub loop-labels-preserved-in-Byte : goal.loop-labels-preserved-in-Byte
 loop-labels-preserved-in-Byte c =
     byte_read c.args.text.now _ c.loop-labels.labels c.loop-labels.label c.push.new.self c.loop-labels.used c.loop-labels.start c.loop-labels.place c.in-Byte.byte c.in-Byte.count (take_rest c.args.text.now c.loop-labels.place) (sym c.token_at.ensures ∙ c.in-Byte.is)
-      (c.in_ok-push-in-Byte.ensures.ok ∙ ap (λ b. c.loop-labels.label ++ b ∷ []) c.to_ascii_lowercase.ensures.value) c.loop-labels.invariant
+    (c.in_ok-push-in-Byte.ensures.ok ∙ ap (λ b. c.loop-labels.label ++ b ∷ []) c.to_ascii_lowercase.ensures.value) c.loop-labels.invariant
 
 pub returns-in-Some : goal.returns-in-Some
 returns-in-Some c =
@@ -31,4 +31,4 @@ returns-in-Some c =
 pub loop-labels-preserved : goal.loop-labels-preserved
 loop-labels-preserved c =
     rw c.clear.ensures (label_read c.args.text.now _ c.loop-labels.labels c.push-in-Dot.new.self c.loop-labels.label c.in_ok-copy-in-Dot.field-0 c.loop-labels.used c.loop-labels.start c.loop-labels.place c.len-in-Dot.result (take_rest c.args.text.now c.loop-labels.place) (sym c.token_at.ensures ∙ c.in-Dot.is) c.len-in-Dot.ensures
-      (subst (λ n. label_fault c.loop-labels.used n ≡ None) (c.len.ensures ∙ sym c.len-in-Dot.ensures) (sym c.label_fault.ensures ∙ c.in_default.is)) c.in_ok-copy-in-Dot.ensures c.in_ok-push-in-Dot.ensures.ok c.loop-labels.invariant)
+    (subst (λ n. label_fault c.loop-labels.used n ≡ None) (c.len.ensures ∙ sym c.len-in-Dot.ensures) (sym c.label_fault.ensures ∙ c.in_default.is)) c.in_ok-copy-in-Dot.ensures c.in_ok-push-in-Dot.ensures.ok c.loop-labels.invariant)

@@ -8,5 +8,5 @@ overflow_cast-len c = omega (arith, label_length c.args.labels.now c.loop-label.
 pub loop-label-preserved : goal.loop-label-preserved
 loop-label-preserved c =
     octets_more c.args.labels.now c.loop-label.label-index c.label-item.result c.loop-label.octets.items c.push.new.self.items c.extend_from_slice.new.self.items c.loop-label-test.true c.label-item.is c.loop-label.invariant
-      (c.in_ok-push.ensures.items ∙ ap (λ n. c.loop-label.octets.items ++ n ∷ []) c.len.ensures)
-      (c.in_ok-extend_from_slice.ensures.items ∙ ap (λ xs. c.push.new.self.items ++ xs) c.as_slice.ensures)
+    (c.in_ok-push.ensures.items ∙ ap (λ n. c.loop-label.octets.items ++ n ∷ []) c.len.ensures)
+    (c.in_ok-extend_from_slice.ensures.items ∙ ap (λ xs. c.push.new.self.items ++ xs) c.as_slice.ensures)

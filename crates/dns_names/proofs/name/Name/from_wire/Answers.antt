@@ -12,17 +12,17 @@ use Rattle.dns_names.proofs.name.Name.from_wire.Goals as goal
 pub invariant_of-result : goal.invariant_of-result
 invariant_of-result c =
     read_name c.args.place c.in_ok-labels.end (drop c.args.place c.args.input.now) c.in_ok-labels.labels (bytes_drop c.args.place c.args.input.now (bytes_of c.args.input.now c.type_inv.input))
-      (subst (λ xs. read_wire c.args.place xs ≡ Ok (c.in_ok-labels.labels, c.in_ok-labels.end)) (take_rest c.args.input.now c.args.place) c.in_ok-labels.ensures)
+    (subst (λ xs. read_wire c.args.place xs ≡ Ok (c.in_ok-labels.labels, c.in_ok-labels.end)) (take_rest c.args.input.now c.args.place) c.in_ok-labels.ensures)
 
 pub returns-clause-name : goal.returns-clause-name
 returns-clause-name c =
     read_name c.args.place c.in_ok-labels.end (drop c.args.place c.args.input.now) c.in_ok-labels.labels (bytes_drop c.args.place c.args.input.now (bytes_of c.args.input.now c.type_inv.input))
-      (subst (λ xs. read_wire c.args.place xs ≡ Ok (c.in_ok-labels.labels, c.in_ok-labels.end)) (take_rest c.args.input.now c.args.place) c.in_ok-labels.ensures)
+    (subst (λ xs. read_wire c.args.place xs ≡ Ok (c.in_ok-labels.labels, c.in_ok-labels.end)) (take_rest c.args.input.now c.args.place) c.in_ok-labels.ensures)
 
 pub returns-clause-spelled : goal.returns-clause-spelled
 returns-clause-spelled c =
     read_says c.args.place c.in_ok-labels.end (drop c.args.place c.args.input.now) c.in_ok-labels.labels
-      (subst (λ xs. read_wire c.args.place xs ≡ Ok (c.in_ok-labels.labels, c.in_ok-labels.end)) (take_rest c.args.input.now c.args.place) c.in_ok-labels.ensures)
+    (subst (λ xs. read_wire c.args.place xs ≡ Ok (c.in_ok-labels.labels, c.in_ok-labels.end)) (take_rest c.args.input.now c.args.place) c.in_ok-labels.ensures)
 
 pub returns-in_err-labels-clause-refused : goal.returns-in_err-labels-clause-refused
 returns-in_err-labels-clause-refused c =
