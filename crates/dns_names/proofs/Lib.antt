@@ -13,3 +13,4 @@ pub mod TextSpelled
 pub mod TextLoop
 pub mod TextNames
 pub mod TextWriting
+pub mod Bounds

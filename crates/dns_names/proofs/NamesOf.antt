@@ -1,10 +1,10 @@
 -- What is read is a name, and a name is its own spelling.
-use Rattle.std.proofs.Common.{◌≡◌, ℕ, zero, suc, ◌+◌, ◌<◌, ◌≤◌, List, [], ◌∷◌, ◌++◌, length, drop, map, get_or, refl, ap, sym, ◌∙◌, subst, arith, Fits, w8}
-use Rattle.std.proofs.lemmas.List.{append_assoc, length-append, length-map}
+use Rattle.std.proofs.Common.{◌≡◌, ℕ, zero, suc, ◌+◌, ◌<◌, List, [], ◌∷◌, ◌++◌, length, drop, map, get_or, refl, ap, sym, ◌∙◌, arith, Fits, w8}
+use Rattle.std.proofs.lemmas.List.{length-append, length-map}
 use Rattle.std.proofs.lemmas.Str.Ascii.{lowercase-lowercase, lowercase_is}
 use Rattle.std.specs.Char.{to_ascii_lowercase}
 use Rattle.std.specs.Str.{str_to_ascii_lowercase}
-use Rattle.dns_names.specs.Names.{AreBytes, IsNameByte, AreNameBytes, IsSized, AreSized, IsLabel, AreLabels, labels_octets, wire_form, CanBegin, IsName}
+use Rattle.dns_names.specs.Names.{AreBytes, AreNameBytes, IsSized, AreSized, IsLabel, AreLabels, labels_octets, CanBegin, IsName}
 
 pub bytes_of : (xs : List ℕ) → ((i : ℕ) → Fits w8 (get_or xs i 0)) → AreBytes xs
 bytes_of [] h = tt

@@ -1,5 +1,5 @@
 -- What the loop over the tokens of a name's text keeps.
-use Rattle.std.proofs.Common.{◌≡◌, ◌≤◌, ◌<◌, ℕ, zero, suc, ◌+◌, ◌^◌, List, [], ◌∷◌, ◌++◌, length, drop, Option, Some, None, true, false, Result, Ok, Err, refl, ap, sym, ◌∙◌, subst, arith}
+use Rattle.std.proofs.Common.{◌≡◌, ◌≤◌, ℕ, ◌+◌, List, [], ◌∷◌, ◌++◌, length, drop, Some, None, false, refl, ap, sym, ◌∙◌, subst, arith}
 use Rattle.std.proofs.lemmas.List.{length-drop, length-append, drop-drop}
 use Rattle.std.specs.Char.{to_ascii_lowercase}
 use Rattle.dns_names.specs.declared.refusal.NameRefusal.{NameRefusal}
@@ -8,7 +8,7 @@ use Rattle.dns_names.specs.declared.token.Token.TheVariants.{End, Dot, Byte, Sto
 use Rattle.dns_names.specs.Answers.{refused}
 use Rattle.dns_names.specs.Names.{labels_octets}
 use Rattle.dns_names.specs.TextParts.{part_text}
-use Rattle.dns_names.specs.TextReading.{TextAnswer, token_at, label_fault, by_fault, label_ends, text_ends, is_dot, read_text}
+use Rattle.dns_names.specs.TextReading.{token_at, label_fault, by_fault, text_ends, is_dot, read_text}
 use Rattle.dns_names.proofs.WireSays.{length_octets_push}
 use Rattle.dns_names.proofs.TextTokens.{TokenSays, token_says}
 use Rattle.dns_names.proofs.TextSteps.{FaultSays, fault_says, part_some, reads, reads_token}

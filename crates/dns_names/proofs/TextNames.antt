@@ -1,6 +1,6 @@
 -- What is read from a text is a name, and a name is read back.
-use Rattle.std.proofs.Common.{◌≡◌, ◌≢◌, ℕ, zero, suc, ◌+◌, ◌-◌, ◌*◌, ◌/◌, ◌%◌, ◌<◌, ◌≤◌, Bool, true, false, cond, ◌||◌, nat_eq, ◌⊎◌, List, [], ◌∷◌, ◌++◌, length, take, map, get_or, Result, Ok, Err, refl, ap, sym, ◌∙◌, subst, arith, inl, inr, lit≤}
-use Rattle.std.proofs.lemmas.List.{append_assoc, append-nil, length-append, length-map, map_push, take_more}
+use Rattle.std.proofs.Common.{◌≡◌, ◌≢◌, ℕ, ◌+◌, ◌/◌, ◌%◌, ◌<◌, Bool, true, false, cond, ◌||◌, nat_eq, ◌⊎◌, List, [], ◌∷◌, ◌++◌, map, Result, Ok, Err, refl, ap, sym, ◌∙◌, subst, arith, inl, inr, lit≤}
+use Rattle.std.proofs.lemmas.List.{map_push}
 use Rattle.std.proofs.lemmas.Bool.Decides.{nat_tests}
 use Rattle.std.proofs.lemmas.Str.Ascii.{lowercase-lowercase}
 use Rattle.std.specs.Char.{to_ascii_lowercase, is_ascii_digit, is_ascii_graphic}
@@ -8,14 +8,14 @@ use Rattle.alt_base.specs.declared.refusal.Refused.{Refused}
 use Rattle.alt_base.specs.declared.refusal.Refused.TheVariants.{NoMemory, At as RefusedThere}
 use Rattle.dns_names.specs.declared.refusal.NameRefusal.{NameRefusal}
 use Rattle.dns_names.specs.Answers.{refused, Answers, IfRefused}
-use Rattle.dns_names.specs.Names.{AreBytes, IsNameByte, AreNameBytes, IsSized, AreSized, IsLabel, AreLabels, labels_octets, wire_form, CanBegin, IsName}
-use Rattle.dns_names.specs.TextParts.{Part, Raw, Quoted, Decimal, part_text, decimal_value, part_byte, part_lower, parts_text, IsPart, AreParts, label_of, dotted, AreAllParts, is_special, part_of, text_form}
+use Rattle.dns_names.specs.Names.{IsNameByte, AreNameBytes, AreSized, AreLabels, IsName}
+use Rattle.dns_names.specs.TextParts.{Part, Raw, Quoted, Decimal, decimal_value, part_byte, part_lower, IsPart, AreParts, label_of, dotted, AreAllParts, is_special, part_of, text_form}
 use Rattle.dns_names.specs.TextGrammar.{JoinsLabels, SpellsText, TextRefusedAt}
 use Rattle.dns_names.specs.TextReading.{read_text}
-use Rattle.dns_names.proofs.Numbers.{true_eq, lt_true, lt_false, true_lt, false_lt}
+use Rattle.dns_names.proofs.Numbers.{true_eq}
 use Rattle.dns_names.proofs.NamesOf.{lower_bound, name_begins}
 use Rattle.dns_names.proofs.TextTokens.{clash}
-use Rattle.dns_names.proofs.TextSays.{TextSays, text_says, dotted_push, all_push, all_last, HasLast, last_of}
+use Rattle.dns_names.proofs.TextSays.{TextSays, text_says, dotted_push, all_push, all_last, last_of}
 use Rattle.dns_names.proofs.TextSpelled.{spelled_reads}
 
 pub read_says : (x : List ℕ) (name : List (List ℕ)) → read_text x ≡ Ok name → SpellsText x name

@@ -1,17 +1,16 @@
 -- The reading of a name's text against its grammar.
-use Rattle.std.proofs.Common.{◌≡◌, ◌≢◌, ◌⊎◌, ℕ, zero, suc, ◌+◌, ◌<◌, ◌≤◌, Bool, true, false, cond, ◌&&◌, nat_eq, nat_lt, List, [], ◌∷◌, ◌++◌, length, drop, map, Option, Some, None, Result, Ok, Err, refl, ap, sym, ◌∙◌, subst, arith, inl, inr, lit≤}
+use Rattle.std.proofs.Common.{◌≡◌, ◌≢◌, ◌⊎◌, ℕ, zero, suc, ◌+◌, ◌≤◌, Bool, true, false, cond, ◌&&◌, nat_eq, nat_lt, List, [], ◌∷◌, ◌++◌, length, drop, map, Option, Some, None, Ok, Err, refl, ap, sym, ◌∙◌, subst, arith, inl, inr, lit≤}
 use Rattle.std.proofs.lemmas.List.{append_assoc, append-nil, length-append, length-map, drop_at, map_push}
 use Rattle.std.specs.Char.{to_ascii_lowercase}
-use Rattle.alt_base.specs.declared.refusal.At.{At}
 use Rattle.dns_names.specs.declared.refusal.NameRefusal.{NameRefusal}
 use Rattle.dns_names.specs.declared.refusal.NameRefusal.TheVariants.{LabelTooLong, NameTooLong, Compressed, Short, EmptyLabel, BadEscape, BadByte}
 use Rattle.dns_names.specs.declared.token.Token.{Token}
 use Rattle.dns_names.specs.declared.token.Token.TheVariants.{End, Dot, Byte, Stop}
 use Rattle.dns_names.specs.Names.{labels_octets, CanBegin}
-use Rattle.dns_names.specs.TextParts.{Part, part_text, part_byte, part_lower, parts_text, IsPart, AreParts, label_of, dotted, AreAllParts}
-use Rattle.dns_names.specs.TextGrammar.{JoinsLabels, SpellsText, TextGoesOn, IsBadByte, IsBadEscape, IsEmptyLabel, EndsLabel, IsLongLabel, IsLongName, TextRefusedAt}
-use Rattle.dns_names.specs.TextReading.{TextAnswer, token_at, label_fault, by_fault, label_ends, read_by, read_tokens, text_ends, is_dot, read_text}
-use Rattle.dns_names.proofs.Numbers.{true_eq, false_eq, true_lt, false_lt}
+use Rattle.dns_names.specs.TextParts.{Part, part_text, part_lower, parts_text, IsPart, AreParts, label_of, dotted, AreAllParts}
+use Rattle.dns_names.specs.TextGrammar.{SpellsText, TextGoesOn, IsEmptyLabel, EndsLabel, TextRefusedAt}
+use Rattle.dns_names.specs.TextReading.{TextAnswer, token_at, by_fault, label_ends, read_by, read_tokens, text_ends, is_dot, read_text}
+use Rattle.dns_names.proofs.Numbers.{true_eq, false_eq, false_lt}
 use Rattle.dns_names.proofs.WireSteps.{HasRoom}
 use Rattle.dns_names.proofs.WireSays.{begin_push}
 use Rattle.dns_names.proofs.TextTokens.{BeginsPart, StopSays, TokenSays, token_says}

@@ -1,23 +1,22 @@
 -- What the grammar of a name's text says is what is read.
-use Rattle.std.proofs.Common.{◌≡◌, ◌≢◌, ◌⊎◌, ℕ, zero, suc, ◌+◌, ◌<◌, ◌≤◌, Bool, true, false, cond, nat_eq, nat_lt, List, [], ◌∷◌, ◌++◌, length, drop, map, Option, Some, None, Result, Ok, Err, refl, ap, sym, ◌∙◌, subst, arith, inl, inr}
-use Rattle.std.proofs.lemmas.List.{append_assoc, append-nil, length-append, length-map, drop_at, map_push}
-use Rattle.std.specs.Char.{to_ascii_lowercase, is_ascii_graphic}
+use Rattle.std.proofs.Common.{◌≡◌, ◌≢◌, ◌⊎◌, ℕ, suc, ◌+◌, ◌<◌, ◌≤◌, Bool, true, false, nat_eq, nat_lt, List, [], ◌∷◌, ◌++◌, length, map, Some, Ok, Err, refl, ap, sym, ◌∙◌, subst, arith, inl, inr}
+use Rattle.std.proofs.lemmas.List.{append_assoc, append-nil, length-append, length-map, drop_at}
+use Rattle.std.specs.Char.{is_ascii_graphic}
 use Rattle.alt_base.specs.declared.refusal.At.{At}
 use Rattle.dns_names.specs.declared.refusal.NameRefusal.{NameRefusal}
 use Rattle.dns_names.specs.declared.refusal.NameRefusal.TheVariants.{LabelTooLong, NameTooLong, Compressed, Short, EmptyLabel, BadEscape, BadByte}
-use Rattle.dns_names.specs.declared.token.Token.{Token}
-use Rattle.dns_names.specs.declared.token.Token.TheVariants.{End, Dot, Byte, Stop}
+use Rattle.dns_names.specs.declared.token.Token.TheVariants.{Byte, Stop}
 use Rattle.dns_names.specs.Answers.{refused}
-use Rattle.dns_names.specs.Names.{AreSized, labels_octets, wire_form, CanBegin}
+use Rattle.dns_names.specs.Names.{AreSized, labels_octets, CanBegin}
 use Rattle.dns_names.specs.TextParts.{Part, Raw, Quoted, Decimal, part_text, part_byte, part_lower, parts_text, IsPart, AreParts, label_of, dotted, AreAllParts}
-use Rattle.dns_names.specs.TextGrammar.{JoinsLabels, SpellsText, TextGoesOn, IsBadByte, IsBadEscape, IsEmptyLabel, EndsLabel, IsLongLabel, IsLongName, TextRefusedAt, OneTextName}
-use Rattle.dns_names.specs.TextReading.{TextAnswer, token_at, label_fault, by_fault, label_ends, read_by, read_tokens, text_ends, is_dot, read_text}
-use Rattle.dns_names.proofs.Numbers.{eq_true, eq_false, true_eq, lt_true, lt_false}
+use Rattle.dns_names.specs.TextGrammar.{JoinsLabels, SpellsText, TextGoesOn, IsEmptyLabel, EndsLabel, TextRefusedAt, OneTextName}
+use Rattle.dns_names.specs.TextReading.{TextAnswer, label_fault, by_fault, label_ends, is_dot, read_text}
+use Rattle.dns_names.proofs.Numbers.{eq_false, lt_true}
 use Rattle.dns_names.proofs.WireSteps.{HasRoom}
-use Rattle.dns_names.proofs.WireSays.{length_wire, length_octets_push, sized_push}
+use Rattle.dns_names.proofs.WireSays.{length_wire, length_octets_push}
 use Rattle.dns_names.proofs.TextTokens.{clash, token_part, token_bad_byte, token_bad_escape, no_dot_slash}
 use Rattle.dns_names.proofs.TextSteps.{no_fault, long_label, long_name, reads, reads_token}
-use Rattle.dns_names.proofs.TextSays.{TextSays, text_says, dotted_push, dot_is}
+use Rattle.dns_names.proofs.TextSays.{TextSays, text_says, dot_is}
 
 same_reads : (ls ls' : List (List ℕ)) (l l' : List ℕ) (s s' a a' : ℕ) (x x' : List ℕ) → ls ≡ ls' → l ≡ l' → s ≡ s' → a ≡ a' → x ≡ x' → reads ls l s a x ≡ reads ls' l' s' a' x'
 same_reads ls ls' l l' s s' a a' x x' e f g h i = cc

@@ -1,14 +1,13 @@
 -- One step of the reading of a name's text.
-use Rattle.std.proofs.Common.{◌≡◌, ◌≢◌, ℕ, zero, suc, ◌+◌, ◌<◌, ◌≤◌, Bool, true, false, cond, nat_eq, nat_lt, List, [], ◌∷◌, ◌++◌, length, drop, Option, Some, None, refl, ap, sym, ◌∙◌, subst, arith}
+use Rattle.std.proofs.Common.{◌≡◌, ◌≢◌, ℕ, zero, suc, ◌+◌, ◌<◌, ◌≤◌, Bool, true, false, cond, nat_eq, nat_lt, List, [], ◌∷◌, length, drop, Option, Some, None, refl, ap, ◌∙◌, subst, arith}
 use Rattle.std.proofs.lemmas.List.{length-drop}
-use Rattle.std.specs.Char.{to_ascii_lowercase}
 use Rattle.dns_names.specs.declared.refusal.NameRefusal.{NameRefusal}
 use Rattle.dns_names.specs.declared.refusal.NameRefusal.TheVariants.{LabelTooLong, NameTooLong, Compressed, Short, EmptyLabel, BadEscape, BadByte}
 use Rattle.dns_names.specs.declared.token.Token.{Token}
 use Rattle.dns_names.specs.declared.token.Token.TheVariants.{End, Dot, Byte, Stop}
 use Rattle.dns_names.specs.TextParts.{Part, Raw, Quoted, Decimal, part_text}
 use Rattle.dns_names.specs.TextReading.{TextAnswer, token_at, label_fault, label_ends, read_by, read_tokens, text_ends}
-use Rattle.dns_names.proofs.Numbers.{eq_true, eq_false, true_eq, false_eq, lt_true, lt_false, true_lt, false_lt}
+use Rattle.dns_names.proofs.Numbers.{eq_false, true_eq, false_eq, lt_true, lt_false, true_lt, false_lt}
 use Rattle.dns_names.proofs.WireSteps.{HasRoom}
 use Rattle.dns_names.proofs.TextTokens.{TokenSays, token_says}
 

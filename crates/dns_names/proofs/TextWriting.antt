@@ -1,7 +1,7 @@
 -- The loops that write a name's text.
 use Rattle.std.proofs.Common.{◌≡◌, ℕ, ◌+◌, ◌<◌, List, [], ◌∷◌, ◌++◌, length, take, map, get_or, refl, ap, sym, ◌∙◌, arith}
 use Rattle.std.proofs.lemmas.List.{append_assoc, map_push, take_more}
-use Rattle.dns_names.specs.TextParts.{Part, part_text, parts_text, dotted, part_of, text_form}
+use Rattle.dns_names.specs.TextParts.{part_text, parts_text, dotted, part_of, text_form}
 use Rattle.dns_names.proofs.TextSays.{parts_push, dotted_push}
 
 pub parts_more : (label text old new : List ℕ) (i : ℕ) → i < length label → text ≡ old ++ parts_text (map part_of (take i label)) → new ≡ text ++ part_text (part_of (get_or label i 0)) → new ≡ old ++ parts_text (map part_of (take (i + 1) label))

@@ -1,8 +1,7 @@
 -- What the loop over the labels of a name's wire form keeps.
-use Rattle.std.proofs.Common.{◌≡◌, ◌≤◌, ◌<◌, ℕ, suc, ◌+◌, List, [], ◌∷◌, ◌++◌, length, take, drop, Result, Ok, Err, refl, ap, sym, ◌∙◌, subst, arith}
+use Rattle.std.proofs.Common.{◌≡◌, ◌≤◌, ℕ, suc, ◌+◌, List, [], ◌∷◌, ◌++◌, length, take, drop, ap, sym, ◌∙◌, subst, arith}
 use Rattle.std.proofs.lemmas.List.{length-drop, drop-drop}
 use Rattle.std.specs.Str.{str_to_ascii_lowercase}
-use Rattle.dns_names.specs.declared.wire.Begins.{Begins}
 use Rattle.dns_names.specs.declared.wire.Begins.TheVariants.{Label}
 use Rattle.dns_names.specs.WireReading.{begins_with, read_wire}
 use Rattle.dns_names.proofs.WireSteps.{BeginSays, begin_says, reads, reads_label}

@@ -1,17 +1,15 @@
 -- The reading of a name's wire form against its grammar.
-use Rattle.std.proofs.Common.{◌≡◌, ◌≢◌, ◌⊎◌, ℕ, zero, suc, ◌+◌, ◌<◌, ◌≤◌, Bool, true, false, List, [], ◌∷◌, ◌++◌, length, take, drop, map, Result, Ok, Err, refl, ap, sym, ◌∙◌, subst, arith, inl, inr, lit≤}
-use Rattle.std.proofs.lemmas.List.{append_assoc, append-nil, length-append, length-drop, length-take-le, take-append-drop, take_at, drop_at, map_push}
+use Rattle.std.proofs.Common.{◌≡◌, ◌⊎◌, ℕ, zero, suc, ◌+◌, ◌<◌, ◌≤◌, List, [], ◌∷◌, ◌++◌, length, take, drop, map, Ok, Err, refl, ap, sym, ◌∙◌, subst, arith, inl, inr, lit≤}
+use Rattle.std.proofs.lemmas.List.{append_assoc, append-nil, length-append, length-drop, length-take-le, take-append-drop, map_push}
 use Rattle.std.specs.Str.{str_to_ascii_lowercase}
-use Rattle.alt_base.specs.declared.refusal.At.{At}
 use Rattle.dns_names.specs.declared.refusal.NameRefusal.{NameRefusal}
 use Rattle.dns_names.specs.declared.refusal.NameRefusal.TheVariants.{LabelTooLong, NameTooLong, Compressed, Short, EmptyLabel, BadEscape, BadByte}
 use Rattle.dns_names.specs.declared.wire.Begins.{Begins}
 use Rattle.dns_names.specs.declared.wire.Begins.TheVariants.{End, Label, Stop, Cut}
-use Rattle.dns_names.specs.Answers.{refused}
 use Rattle.dns_names.specs.Names.{IsSized, AreSized, labels_octets, wire_form, CanBegin}
-use Rattle.dns_names.specs.WireGrammar.{SpellsWire, FrontSpells, SpellsUpTo, GoesOn, Stops, IsStopped, IsCutLabel, IsShort, WireRefusedAt, OneWireName}
+use Rattle.dns_names.specs.WireGrammar.{SpellsUpTo, GoesOn, Stops, IsStopped, IsCutLabel, IsShort, WireRefusedAt}
 use Rattle.dns_names.specs.WireReading.{WireAnswer, begins_with, read_by, read_labels, read_wire}
-use Rattle.dns_names.proofs.WireSteps.{HasRoom, StopsAt, BeginSays, begin_says, label_begins, cut_begins, stop_begins, reads, reads_label}
+use Rattle.dns_names.proofs.WireSteps.{HasRoom, StopsAt, BeginSays, begin_says}
 
 pub octets_push : (labels : List (List ℕ)) (label : List ℕ) → labels_octets (labels ++ label ∷ []) ≡ labels_octets labels ++ length label ∷ label
 octets_push [] label = ap (λ xs. length label ∷ xs) (append-nil label)

@@ -1,16 +1,15 @@
 -- What the grammar of a name's wire form says is what is read.
-use Rattle.std.proofs.Common.{◌≡◌, ◌≢◌, ◌⊎◌, ℕ, zero, suc, ◌+◌, ◌<◌, ◌≤◌, List, [], ◌∷◌, ◌++◌, length, take, drop, map, Result, Ok, Err, refl, ap, sym, ◌∙◌, subst, arith, inl, inr}
-use Rattle.std.proofs.lemmas.List.{append_assoc, append-nil, append_cancel_right, length-append, length-map, take_at, drop_at}
+use Rattle.std.proofs.Common.{◌≡◌, ◌⊎◌, ℕ, suc, ◌+◌, ◌≤◌, List, [], ◌∷◌, ◌++◌, length, take, map, Ok, Err, refl, ap, sym, ◌∙◌, arith, inl, inr}
+use Rattle.std.proofs.lemmas.List.{append_assoc, append-nil, length-append, take_at, drop_at}
 use Rattle.std.specs.Str.{str_to_ascii_lowercase}
 use Rattle.alt_base.specs.declared.refusal.At.{At}
 use Rattle.dns_names.specs.declared.refusal.NameRefusal.{NameRefusal}
 use Rattle.dns_names.specs.declared.refusal.NameRefusal.TheVariants.{LabelTooLong, NameTooLong, Compressed, Short, EmptyLabel, BadEscape, BadByte}
-use Rattle.dns_names.specs.declared.wire.Begins.{Begins}
-use Rattle.dns_names.specs.declared.wire.Begins.TheVariants.{End, Label, Stop, Cut}
+use Rattle.dns_names.specs.declared.wire.Begins.TheVariants.{Stop, Cut}
 use Rattle.dns_names.specs.Answers.{refused}
-use Rattle.dns_names.specs.Names.{IsSized, AreSized, labels_octets, wire_form, CanBegin}
-use Rattle.dns_names.specs.WireGrammar.{SpellsWire, FrontSpells, SpellsUpTo, GoesOn, Stops, IsStopped, IsCutLabel, IsShort, WireRefusedAt, OneWireName}
-use Rattle.dns_names.specs.WireReading.{WireAnswer, begins_with, read_by, read_labels, read_wire}
+use Rattle.dns_names.specs.Names.{AreSized, labels_octets, wire_form, CanBegin}
+use Rattle.dns_names.specs.WireGrammar.{FrontSpells, SpellsUpTo, GoesOn, Stops, IsStopped, IsCutLabel, WireRefusedAt, OneWireName}
+use Rattle.dns_names.specs.WireReading.{WireAnswer, read_wire}
 use Rattle.dns_names.proofs.WireSteps.{HasRoom, StopsAt, label_begins, cut_begins, stop_begins, reads, reads_label, reads_stop}
 use Rattle.dns_names.proofs.WireSays.{Says, wire_says, length_wire}
 

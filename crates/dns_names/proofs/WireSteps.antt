@@ -1,13 +1,13 @@
 -- One step of the reading of a name's wire form.
-use Rattle.std.proofs.Common.{◌≡◌, ◌≢◌, ◌⊎◌, ℕ, zero, suc, ◌+◌, ◌<◌, ◌≤◌, Bool, true, false, cond, nat_eq, nat_le, nat_lt, List, [], ◌∷◌, ◌++◌, length, take, drop, Result, Ok, Err, refl, ap, sym, ◌∙◌, subst, arith, inl, inr}
+use Rattle.std.proofs.Common.{◌≡◌, ◌≢◌, ◌⊎◌, ℕ, zero, suc, ◌+◌, ◌<◌, ◌≤◌, Bool, true, false, cond, nat_eq, nat_le, nat_lt, List, [], ◌∷◌, ◌++◌, length, take, drop, refl, ap, ◌∙◌, arith, inl, inr}
 use Rattle.std.proofs.lemmas.List.{length-drop}
 use Rattle.std.specs.Str.{str_to_ascii_lowercase}
 use Rattle.dns_names.specs.declared.refusal.NameRefusal.{NameRefusal}
 use Rattle.dns_names.specs.declared.refusal.NameRefusal.TheVariants.{LabelTooLong, NameTooLong, Compressed, Short, EmptyLabel, BadEscape, BadByte}
 use Rattle.dns_names.specs.declared.wire.Begins.{Begins}
 use Rattle.dns_names.specs.declared.wire.Begins.TheVariants.{End, Label, Stop, Cut}
-use Rattle.dns_names.specs.WireReading.{WireAnswer, begins_by, begins_with, read_by, read_labels, read_wire}
-use Rattle.dns_names.proofs.Numbers.{eq_true, eq_false, true_eq, false_eq, lt_true, lt_false, true_lt, false_lt, le_true, le_false, true_le, false_le}
+use Rattle.dns_names.specs.WireReading.{WireAnswer, begins_by, begins_with, read_by, read_labels}
+use Rattle.dns_names.proofs.Numbers.{eq_false, true_eq, false_eq, lt_true, lt_false, true_lt, false_lt, le_true, le_false, true_le, false_le}
 
 -- the octet n, behind so many octets
 abbrev pub StopsAt : ℕ → ℕ → NameRefusal → Type 0

@@ -61,6 +61,8 @@ impl Name {
         ensures spelled { IfOk result (λ answer. SpellsUpTo place (drop place input.now) answer.0 answer.1) }
         ensures refused { IfRefused result (WireRefusedAt place (drop place input.now)) }
         ensures name { IfOk result (λ answer. IsName answer.0) }
+        ensures after { IfOk result (λ answer. (place < answer.1) × (answer.1 ≤ length input.now)) }
+        ensures refused_within { IfRefused result (λ at reason. at ≤ length input.now) }
     {
         let (labels, end) = wire::read_labels(alloc, &input[place as usize..], place)?;
         Ok((Name { labels }, end))
@@ -69,6 +71,7 @@ impl Name {
     /// The wire form (RFC 1035 3.1), without compression.
     pub fn to_wire(&self, alloc: Global) -> Result<Bytes, NoMemory>
         ensures written { IfOk result (λ octets. octets ≡ wire_form self.now) }
+        ensures sized { IfOk result (λ octets. length octets ≤ 255) }
         ensures read_back { IfOk result (λ octets. read_wire 0 octets ≡ Ok (self.now, length octets)) }
         ensures name { IsName self.now }
     {
@@ -88,6 +91,7 @@ impl Name {
         ensures spelled { IfOk result (SpellsText text.now) }
         ensures refused { IfRefused result (TextRefusedAt text.now) }
         ensures name { IfOk result IsName }
+        ensures refused_within { IfRefused result (λ at reason. at ≤ length text.now) }
     {
         let labels = text::read_labels(alloc, text)?;
         Ok(Name { labels })
@@ -97,6 +101,7 @@ impl Name {
     /// as a backslash and three digits.
     pub fn to_text(&self, alloc: Global) -> Result<Text, NoMemory>
         ensures written { IfOk result (λ text. text ≡ text_form self.now) }
+        ensures sized { IfOk result (λ text. length text ≤ 1016) }
         ensures read_back { IfOk result (λ text. read_text text ≡ Ok self.now) }
         ensures name { IsName self.now }
     {
