@@ -1,4 +1,4 @@
-ghost use Rattle.std.specs.Prelude.{◌≡◌, ◌≤◌, ◌<◌, ◌^◌, ◌+◌, length};
+ghost use Rattle.std.specs.Prelude.{false, ◌≡◌, ◌≤◌, ◌<◌, ◌^◌, ◌+◌, length};
 ghost use Rattle.dns_names.specs.Answers.{Answers};
 ghost use Rattle.dns_names.specs.Names.{labels_octets};
 ghost use Rattle.dns_names.specs.TextReading.{is_dot, label_fault, text_ends, read_text};
@@ -62,8 +62,18 @@ pub(crate) fn read_labels(alloc: Global, text: &[u8]) -> Result<ListOf<Bytes>, R
     ensures { Answers result (read_text text.now) }
 {
     if is_dot(text) {
-        return Ok(ListOf::new(alloc));
+        Ok(ListOf::new(alloc))
+    } else {
+        joined_labels(alloc, text)
     }
+}
+
+// The labels that a text other than a dot alone joins by dots.
+fn joined_labels(alloc: Global, text: &[u8]) -> Result<ListOf<Bytes>, Refused<NameRefusal>>
+    requires small { length text.now < 2 ^ 32 }
+    requires joined { is_dot text.now ≡ false }
+    ensures { Answers result (read_text text.now) }
+{
     let mut labels = ListOf::new(alloc);
     let mut label = ListOf::new(alloc);
     let mut used = 0;
