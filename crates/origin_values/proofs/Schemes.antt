@@ -1,30 +1,18 @@
 -- The scheme at the front of an origin's text.
-use Rattle.std.proofs.Common.{◌≡◌, ◌⊎◌, ℕ, suc, ◌+◌, ◌<◌, ◌≤◌, Bool, true, false, cond, ◌&&◌, nat_eq, List, [], ◌∷◌, ◌++◌, length, map, take, drop, codes, refl, ap, ap₂, sym, ◌∙◌, subst, arith, inl, inr, take-append-drop}
+use Rattle.std.proofs.Common.{◌≡◌, ◌⊎◌, ℕ, ◌≤◌, Bool, true, false, cond, ◌&&◌, nat_eq, List, [], ◌∷◌, ◌++◌, length, map, take, drop, codes, refl, ap, ap₂, sym, ◌∙◌, arith, inl, inr, take-append-drop}
 use Rattle.std.specs.Char.{to_ascii_lowercase}
 use Rattle.origin_values.specs.OriginGrammar.{SpellsScheme}
-use Rattle.origin_values.specs.OriginReading.{begins, read_rest, read_origin, refused}
-use Rattle.origin_values.specs.Written.{scheme_text}
+use Rattle.origin_values.specs.OriginReading.{begins, read_rest, read_origin, refusal_at}
 use Rattle.origin_values.specs.declared.scheme.Scheme.{Scheme}
 use Rattle.origin_values.specs.declared.scheme.Scheme.TheVariants.{Http, Https}
 use Rattle.origin_values.specs.declared.refusal.OriginRefusal.TheVariants.{BadScheme}
+use Rattle.origin_values.proofs.Comparisons.{both, same_from_test, length_lower}
 
 -- whether a list begins with another
 abbrev starts : List ℕ → List ℕ → Bool
 starts [] text = true
 starts (c ∷ front) [] = false
 starts (c ∷ front) (b ∷ bs) = nat_eq b c && starts front bs
-
-both : (a b : Bool) → (a && b) ≡ true → (a ≡ true) × (b ≡ true)
-both true true h = (refl, refl)
-both true false h = cc
-both false b h = cc
-
-same_from_test : (a b : ℕ) → nat_eq a b ≡ true → a ≡ b
-same_from_test a b h = grind arith
-
-length_lower : (text : List ℕ) → length (map to_ascii_lowercase text) ≡ length text
-length_lower [] = refl
-length_lower (b ∷ bs) = omega (arith, length_lower bs)
 
 begins_by_letters : (front letters rest : List ℕ) → length front ≤ length letters → begins front (letters ++ rest) ≡ starts front (map to_ascii_lowercase letters)
 begins_by_letters [] letters rest short = refl
@@ -70,7 +58,7 @@ pub record HasScheme (text : List ℕ) : Type 0 where
 
 pub record HasNoScheme (text : List ℕ) : Type 0 where
   pub none : (letters rest : List ℕ) (scheme : Scheme) → text ≡ letters ++ rest → SpellsScheme letters scheme → ⊥
-  pub reads : read_origin text ≡ refused 0 BadScheme
+  pub reads : read_origin text ≡ refusal_at 0 BadScheme
 
 true_false : (t : Bool) → t ≡ true → t ≡ false → ⊥
 true_false t h k = clash (sym h ∙ k)

@@ -1,6 +1,5 @@
-use Rattle.std.proofs.Common.{rules, ◌≡◌, Option, Some}
+use Rattle.std.proofs.Common.{rules, ◌≡◌, Some}
 use Rattle.origin_values.specs.HostReading.{read_addr}
-use Rattle.origin_values.specs.declared.address.Addr.{Addr}
 use Rattle.origin_values.specs.declared.address.Addr.TheVariants.{V4}
 use Rattle.origin_values.proofs.Addresses.{read_addr_says}
 use Rattle.origin_values.proofs.AddressTexts.{addr_says}
