@@ -73,6 +73,7 @@ no_name_empty : (name : List ℕ) → SpellsName [] name → ⊥
 no_name_empty name h = false_true (name_labels [] name h)
 
 pub read_host_complete : (text : List ℕ) (host : Host) → SpellsHost text host → read_host text ≡ Some host
+unfolding read_host
 read_host_complete [] (Name name) h = absurd (no_name_empty name h)
 read_host_complete (b ∷ bs) (Name name) h = go (nat_eq b 91) (read_v4 (b ∷ bs)) refl refl
   where
@@ -91,6 +92,7 @@ read_host_complete (b ∷ bs) (V4 bytes) h = go (nat_eq b 91) refl
 read_host_complete text (V6 bytes) h = ap read_host h.spelled ∙ ap (option_map V6) (read_closed_complete h.inner bytes h.address)
 
 pub read_host_sound : (text : List ℕ) (host : Host) → read_host text ≡ Some host → SpellsHost text host
+unfolding read_host
 read_host_sound [] host h = cc
 read_host_sound (b ∷ bs) host h = go (nat_eq b 91) (read_v4 (b ∷ bs)) (read_name (b ∷ bs)) (read_closed bs) refl refl refl refl h
   where

@@ -38,6 +38,7 @@ cond_false t x y h = rw h refl
 
 -- a scheme's text, and then what follows it
 pub scheme_reads : (letters rest : List ℕ) (scheme : Scheme) → SpellsScheme letters scheme → read_origin (letters ++ rest) ≡ read_rest scheme (length letters) rest
+unfolding read_origin
 scheme_reads letters rest Http h =
     let count : length letters ≡ 7 = sym (length_lower letters) ∙ ap length h in
     let is : begins (codes "http://") (letters ++ rest) ≡ true = begins_by_letters (codes "http://") letters rest (omega arith) ∙ ap (starts (codes "http://")) h in
@@ -76,6 +77,7 @@ neither text http https letters rest Https spelled h =
     true_false _ (ap (begins (codes "https://")) spelled ∙ (begins_by_letters (codes "https://") letters rest (omega arith) ∙ ap (starts (codes "https://")) h)) https
 
 pub scheme_found : (text : List ℕ) → HasScheme text ⊎ HasNoScheme text
+unfolding read_origin
 scheme_found text = go (begins (codes "http://") text) (begins (codes "https://") text) refl refl
   where
     go : (s t : Bool) → begins (codes "http://") text ≡ s → begins (codes "https://") text ≡ t → HasScheme text ⊎ HasNoScheme text

@@ -84,7 +84,8 @@ pub record IsBadScheme (text : List ℕ) (place : ℕ) : Type 0 where
   pub none : (letters rest : List ℕ) (scheme : Scheme) → text ≡ letters ++ rest → SpellsScheme letters scheme → ⊥
   pub at : place ≡ 0
 
--- no host follows the scheme
+-- no host follows the scheme: its bytes spell none, its bracket isn't closed, ToASCII gives nothing for them, or what
+-- it gives holds `_`
 pub record IsBadHost (text : List ℕ) (place : ℕ) : Type 0 where
   pub letters : List ℕ
   pub rest : List ℕ

@@ -49,6 +49,7 @@ begins (c ∷ letters) (b ∷ bs) = nat_eq (to_ascii_lowercase b) c && begins le
 abbrev pub refusal_at : ℕ → OriginRefusal → Result Origin (At OriginRefusal)
 refusal_at place reason = Err (record { place = place; reason = reason })
 
+-- the origin, where nothing is left
 abbrev pub at_end : Origin → ℕ → List ℕ → Result Origin (At OriginRefusal)
 at_end origin place [] = Ok origin
 at_end origin place (b ∷ bs) = refusal_at place Trailing
@@ -79,10 +80,12 @@ read_port scheme host place [] = Ok (record { scheme = scheme; host = host; port
 read_port scheme host place (b ∷ bs) =
     if nat_eq b 58 then read_digits scheme host (place + 1) (digits_before bs) bs else refusal_at place Trailing
 
+-- the host that was read in this many bytes, and what follows it
 abbrev pub host_then_port : Scheme → ℕ → List ℕ → ℕ → Option Host → Result Origin (At OriginRefusal)
 host_then_port scheme place rest end None = refusal_at place BadHost
 host_then_port scheme place rest end (Some host) = read_port scheme host (place + end) (drop end rest)
 
+-- a host of this many bytes
 abbrev pub read_run_of : Scheme → ℕ → List ℕ → Option ℕ → Result Origin (At OriginRefusal)
 read_run_of scheme place rest None = refusal_at place BadHost
 read_run_of scheme place rest (Some end) = host_then_port scheme place rest end (read_run (take end rest))
@@ -91,7 +94,7 @@ read_run_of scheme place rest (Some end) = host_then_port scheme place rest end 
 abbrev pub read_rest : Scheme → ℕ → List ℕ → Result Origin (At OriginRefusal)
 read_rest scheme place rest = read_run_of scheme place rest (host_end rest)
 
-abbrev pub read_origin : List ℕ → Result Origin (At OriginRefusal)
+unfoldable pub read_origin : List ℕ → Result Origin (At OriginRefusal)
 read_origin text =
     if begins (codes "http://") text then read_rest Http 7 (drop 7 text)
     else (if begins (codes "https://") text then read_rest Https 8 (drop 8 text) else refusal_at 0 BadScheme)
