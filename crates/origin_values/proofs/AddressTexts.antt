@@ -1,13 +1,12 @@
 -- Addresses that were read are valid, and the text of a valid address spells it.
-use Rattle.std.proofs.Common.{◌≡◌, ◌⊎◌, ℕ, zero, suc, ◌+◌, ◌-◌, ◌*◌, ◌/◌, ◌%◌, ◌^◌, ◌<◌, ◌≤◌, Bool, true, false, List, [], ◌∷◌, ◌++◌, length, get_or, replicate, All, Option, Some, None, IfSome, refl, ap, ap₂, sym, ◌∙◌, subst, arith, inl, inr, length-append}
+use Rattle.std.proofs.Common.{◌≡◌, ℕ, zero, suc, ◌+◌, ◌-◌, ◌*◌, ◌/◌, ◌%◌, ◌^◌, ◌<◌, ◌≤◌, Bool, true, false, List, [], ◌∷◌, ◌++◌, length, get_or, replicate, All, Option, Some, None, IfSome, refl, ap, sym, ◌∙◌, subst, arith, inl, inr, length-append}
 use Rattle.std.specs.List.{AllByRecursion}
 use Rattle.std.proofs.lemmas.List.{length-replicate}
 use Rattle.std.proofs.lemmas.List.Elements.{All-from_recursion, recursion_from_All, All-append, All-replicate, All-nil, All-cons}
 use Rattle.std.proofs.lemmas.Int.Digits.{digits_value-lt}
-use Rattle.std.specs.Str.Parse.{digits_value}
 use Rattle.std.specs.Net.Addr.{octets_of, segments_of}
-use Rattle.std.specs.Net.Text.{hex_groups_text, ipv4_text}
-use Rattle.std.specs.Net.Grammar.{IsDotted, IsColonHex, IsGroups, IsGroupsAfter, IsGroup, IsElided}
+use Rattle.std.specs.Net.Text.{ipv4_text}
+use Rattle.std.specs.Net.Grammar.{IsDotted, IsColonHex, IsGroupsAfter, IsGroup}
 use Rattle.std.proofs.NetLemmas.Texts.{IsDotted-ipv4_text, IsColonHex-hex_groups_text, AllSegments}
 use Rattle.origin_values.specs.HostGrammar.{SpellsV4, SpellsV6, SpellsAddr}
 use Rattle.origin_values.specs.HostReading.{read_addr}

@@ -1,7 +1,7 @@
 -- The reading of addresses against their grammar.
-use Rattle.std.proofs.Common.{◌≡◌, ℕ, List, [], ◌∷◌, ◌++◌, Option, None, Some, option_map, refl, ap, sym, ◌∙◌, subst, append-nil, lit≤, arith, length, ne_eqb, nat_eq, cond, IfSome, IfNone}
+use Rattle.std.proofs.Common.{◌≡◌, ℕ, List, [], ◌∷◌, Option, None, Some, option_map, refl, ap, sym, ◌∙◌, subst, append-nil, lit≤, arith, length, ne_eqb, cond, IfSome, IfNone}
 use Rattle.std.specs.Net.Addr.{octets_of}
-use Rattle.std.specs.Net.Grammar.{IsDotted, IsColonHex, IsIpv4Text, IsIpv6Text}
+use Rattle.std.specs.Net.Grammar.{IsColonHex, IsIpv4Text, IsIpv6Text}
 use Rattle.std.specs.Net.Reader.{Read, read_ipv4, read_ipv6, whole_value}
 use Rattle.std.specs.declared.net.ipv4_addr.Ipv4Addr.{Ipv4Addr}
 use Rattle.std.specs.declared.net.ipv6_addr.Ipv6Addr.{Ipv6Addr}
@@ -73,6 +73,7 @@ pub v4_not_v6 : (text bytes other : List ℕ) → SpellsV4 text bytes → Spells
 v4_not_v6 text bytes other four six = IsDotted-not_colon_hex text bytes six.groups four six.spelled
 
 pub read_addr_complete : (text : List ℕ) (addr : Addr) → SpellsAddr text addr → read_addr text ≡ Some addr
+unfolding read_addr
 read_addr_complete text (address.V4 bytes) h = rw (read_v4_complete text bytes h) refl
 read_addr_complete text (address.V6 bytes) h = go (read_v4 text) refl
   where
@@ -81,6 +82,7 @@ read_addr_complete text (address.V6 bytes) h = go (read_v4 text) refl
     go (Some other) is = absurd (v4_not_v6 text other bytes (read_v4_sound text other is) h)
 
 pub read_addr_sound : (text : List ℕ) (addr : Addr) → read_addr text ≡ Some addr → SpellsAddr text addr
+unfolding read_addr
 read_addr_sound text addr h = go (read_v4 text) (read_v6 text) refl refl h
   where
     go : (four six : Option (List ℕ)) → read_v4 text ≡ four → read_v6 text ≡ six → first_of_two (option_map address.V4 four) (option_map address.V6 six) ≡ Some addr → SpellsAddr text addr

@@ -1,7 +1,7 @@
 -- The ASCII text of an origin.
-use Rattle.std.proofs.Common.{◌≡◌, ℕ, ◌+◌, ◌^◌, ◌<◌, ◌≤◌, Bool, true, false, ◌&&◌, cond, nat_eq, nat_lt, List, [], ◌∷◌, ◌++◌, length, Result, Ok, Err, IfOk, decimal, refl, ap, sym, ◌∙◌, subst, arith}
+use Rattle.std.proofs.Common.{◌≡◌, ℕ, ◌^◌, ◌<◌, Bool, true, false, ◌&&◌, cond, nat_eq, List, [], ◌∷◌, ◌++◌, Result, Ok, Err, IfOk, decimal, refl, ap, sym, ◌∙◌, subst, arith}
 use Rattle.std.specs.List.{list_all}
-use Rattle.std.specs.Char.{is_ascii, digit_value}
+use Rattle.std.specs.Char.{is_ascii}
 use Rattle.std.specs.Cmp.Lexicographic.{pointwise, same_text}
 use Rattle.std.specs.Str.Parse.{AllDigits}
 use Rattle.std.proofs.lemmas.Str.Parse.{digit_from_value}
@@ -22,6 +22,7 @@ use Rattle.origin_values.specs.declared.origin.Origin.{Origin}
 use Rattle.origin_values.specs.declared.refusal.OriginRefusal.{OriginRefusal}
 use Rattle.origin_values.proofs.Origins.{origin_sound, origin_refusal}
 use Rattle.origin_values.proofs.OriginTexts.{origin_valid, origin_read_back, host_ascii}
+use Rattle.origin_values.proofs.Comparisons.{test_from_lt}
 
 abbrev ok_of : Origin → Result Origin (At OriginRefusal)
 ok_of origin = Ok origin
@@ -32,6 +33,9 @@ same_origin_value a b e = cc
 -- what is written as the text is what is read
 ascii_read : (text : List ℕ) (origin : Origin) → SpellsAscii text origin → read_origin text ≡ Ok origin
 ascii_read text origin h = ap read_origin h.spelled ∙ origin_read_back origin h.valid
+
+pub ascii_spelled : (text : List ℕ) (origin : Origin) → SpellsAscii text origin → SpellsOrigin text origin
+ascii_spelled text origin h = origin_sound text origin (ascii_read text origin h)
 
 pub one_ascii : (text : List ℕ) (a b : Origin) → SpellsAscii text a → SpellsAscii text b → a ≡ b
 one_ascii text a b h k = same_origin_value a b (sym (ascii_read text a h) ∙ ascii_read text b k)
@@ -46,9 +50,6 @@ all_append (x ∷ xs) ys h k = go (λ e. all_append xs ys e k) (is_ascii x) refl
     go : (list_all is_ascii xs ≡ true → list_all is_ascii (xs ++ ys) ≡ true) → (t : Bool) → is_ascii x ≡ t → (t && list_all is_ascii xs) ≡ true → (is_ascii x && list_all is_ascii (xs ++ ys)) ≡ true
     go later true is e = rw is (later e)
     go later false is e = absurd (clash e)
-
-test_from_lt : (a b : ℕ) → a < b → nat_lt a b ≡ true
-test_from_lt a b h = grind arith
 
 digits_ascii : (ds : List ℕ) → AllDigits 10 ds → list_all is_ascii ds ≡ true
 digits_ascii [] h = refl

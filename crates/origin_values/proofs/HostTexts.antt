@@ -1,35 +1,27 @@
 -- Hosts that were read are valid, and the text of a valid host spells it.
-use Rattle.std.proofs.Common.{◌≡◌, ℕ, ◌+◌, ◌<◌, ◌≤◌, Bool, true, false, cond, ◌&&◌, ◌||◌, nat_eq, nat_lt, nat_le, List, [], ◌∷◌, ◌++◌, length, map, Option, Some, None, refl, ap, ap₂, sym, ◌∙◌, subst, arith}
+use Rattle.std.proofs.Common.{◌≡◌, ℕ, ◌+◌, ◌<◌, ◌≤◌, Bool, true, false, cond, ◌&&◌, ◌||◌, nat_eq, nat_lt, nat_le, List, [], ◌∷◌, length, map, Some, refl, ap, ap₂, sym, ◌∙◌, subst, arith}
 use Rattle.std.specs.Char.{is_ascii_digit, to_ascii_lowercase}
 use Rattle.alt_base.specs.Classes.{in_ranges, host_name_class}
 use Rattle.origin_values.specs.HostGrammar.{SpellsName, SpellsHost}
-use Rattle.origin_values.specs.HostReading.{are_labels, is_name, read_name, read_host}
+use Rattle.origin_values.specs.HostReading.{are_labels, read_name, read_host}
 use Rattle.origin_values.specs.Valid.{IsHost}
 use Rattle.origin_values.specs.Written.{host_text, v6_text}
 use Rattle.origin_values.specs.declared.host.Host.{Host}
 use Rattle.origin_values.specs.declared.host.Host.TheVariants.{Name, V4, V6}
 use Rattle.origin_values.proofs.AddressTexts.{v4_written, v6_written, v4_valid, v6_valid}
 use Rattle.origin_values.proofs.Hosts.{read_host_complete}
-use Rattle.origin_values.proofs.Names.{read_name_sound, read_name_complete, test_from_le, and_from, name_labels}
+use Rattle.origin_values.proofs.Names.{read_name_sound, name_labels}
+use Rattle.origin_values.proofs.Comparisons.{and_from, and_false, lt_from_test, ge_from_test, test_from_ge, test_from_le, length_lower}
 
 -- what a byte is asked of keeps its answer in lower case
 abbrev SameTests : ℕ → ℕ → Type 0
 SameTests b c = (nat_eq c 46 ≡ nat_eq b 46) × (in_ranges host_name_class c ≡ in_ranges host_name_class b) × (is_ascii_digit c ≡ is_ascii_digit b) × (to_ascii_lowercase c ≡ c)
-
-not_lt : (a b : ℕ) → b ≤ a → nat_lt a b ≡ false
-not_lt a b h = grind arith
 
 not_le : (a b : ℕ) → b < a → nat_le a b ≡ false
 not_le a b h = grind arith
 
 not_eq : (a b : ℕ) → b < a → nat_eq a b ≡ false
 not_eq a b h = grind arith
-
-lt_from_test : (a b : ℕ) → nat_lt a b ≡ true → a < b
-lt_from_test a b h = grind arith
-
-ge_from_test : (a b : ℕ) → nat_lt a b ≡ false → b ≤ a
-ge_from_test a b h = grind arith
 
 last_in : (a b c d e : Bool) → e ≡ true → (a || (b || (c || (d || (e || false))))) ≡ true
 last_in true b c d e h = refl
@@ -50,16 +42,12 @@ upper_in b low high = third_in (nat_le 45 b && nat_le b 45) (nat_le 48 b && nat_
 lower_in : (b : ℕ) → 97 ≤ b → b < 123 → in_ranges host_name_class b ≡ true
 lower_in b low high = last_in (nat_le 45 b && nat_le b 45) (nat_le 48 b && nat_le b 57) (nat_le 65 b && nat_le b 90) (nat_le 95 b && nat_le b 95) (nat_le 97 b && nat_le b 122) (and_from (nat_le 97 b) (nat_le b 122) (test_from_le 97 b low) (test_from_le b 122 (omega arith)))
 
-and_false : (a b : Bool) → b ≡ false → (a && b) ≡ false
-and_false true b h = h
-and_false false b h = refl
-
 letter : (b : ℕ) → 65 ≤ b → b < 91 → SameTests b (b + 32)
 letter b low high = (
   not_eq (b + 32) 46 (omega arith) ∙ sym (not_eq b 46 (omega arith)),
   lower_in (b + 32) (omega arith) (omega arith) ∙ sym (upper_in b low high),
   and_false (nat_le 48 (b + 32)) (nat_le (b + 32) 57) (not_le (b + 32) 57 (omega arith)) ∙ sym (and_false (nat_le 48 b) (nat_le b 57) (not_le b 57 (omega arith))),
-  rw (not_lt (b + 32) 65 (omega arith), not_lt (b + 32) 91 (omega arith)) refl,
+  rw (test_from_ge (b + 32) 65 (omega arith), test_from_ge (b + 32) 91 (omega arith)) refl,
 )
 
 lower_tests : (b : ℕ) → SameTests b (to_ascii_lowercase b)
@@ -79,10 +67,6 @@ lower_labels [] count digits = refl
 lower_labels (b ∷ bs) count digits =
     let tests = lower_tests b in
     rw (tests.0, tests.1, tests.2, lower_labels bs 0 true, lower_labels bs (count + 1) (digits && is_ascii_digit b)) refl
-
-length_lower : (text : List ℕ) → length (map to_ascii_lowercase text) ≡ length text
-length_lower [] = refl
-length_lower (b ∷ bs) = omega (arith, length_lower bs)
 
 pub name_valid : (text name : List ℕ) → SpellsName text name → SpellsName name name
 name_valid text name h =

@@ -1,18 +1,15 @@
 -- The reading of hosts against their grammar.
-use Rattle.std.proofs.Common.{◌≡◌, ◌⊎◌, ℕ, Bool, true, false, cond, nat_eq, List, [], ◌∷◌, ◌++◌, Option, None, Some, option_map, option_and_then, Result, Ok, Err, refl, ap, sym, ◌∙◌, subst, arith, inl, inr, length}
+use Rattle.std.proofs.Common.{◌≡◌, ◌⊎◌, ℕ, Bool, true, false, cond, nat_eq, List, [], ◌∷◌, ◌++◌, Option, None, Some, option_map, option_and_then, Ok, Err, refl, ap, sym, ◌∙◌, subst, inl, inr}
 use Rattle.std.specs.Net.Reader.{read_ipv4, read_octet, read_number}
-use Rattle.alt_base.specs.declared.refusal.At.{At}
-use Rattle.alt_base.specs.declared.refusal.Refused.{Refused}
-use Rattle.alt_base.specs.declared.refusal.Refused.TheVariants as refused
 use Rattle.origin_values.specs.declared.refusal.HostRefusal.{HostRefusal}
 use Rattle.origin_values.specs.declared.refusal.HostRefusal.TheVariants.{BadHost}
 use Rattle.origin_values.specs.declared.host.Host.{Host}
 use Rattle.origin_values.specs.declared.host.Host.TheVariants.{Name, V4, V6}
-use Rattle.origin_values.specs.Gives.{Gives, IfRefused}
-use Rattle.origin_values.specs.HostGrammar.{SpellsV4, SpellsV6, SpellsName, SpellsBracketed, SpellsHost, HostRefusedAt, OneHost, AreLabels}
+use Rattle.origin_values.specs.HostGrammar.{SpellsV4, SpellsV6, SpellsName, SpellsHost, HostRefusedAt, OneHost}
 use Rattle.origin_values.specs.HostReading.{read_v4, read_v6, read_name, before_bracket, read_closed, read_host, first_of_two, host_or_refusal}
 use Rattle.origin_values.proofs.Addresses.{read_v4_complete, read_v4_sound, read_v6_complete, read_v6_sound}
 use Rattle.origin_values.proofs.Names.{read_name_complete, read_name_sound, name_labels, no_v4_and_name}
+use Rattle.origin_values.proofs.Comparisons.{same_from_test}
 
 -- the last byte decides
 pub before_bracket_push : (inner : List ℕ) (last : ℕ) → before_bracket (inner ++ last ∷ []) ≡ cond (nat_eq last 93) (Some inner) None
@@ -27,9 +24,6 @@ before_bracket_push (b ∷ c ∷ bs) last = ap (option_map (λ front. b ∷ fron
     go : (t : Bool) → option_map (λ front. b ∷ front) (cond t (Some (c ∷ bs)) None) ≡ cond t (Some (b ∷ c ∷ bs)) None
     go true = refl
     go false = refl
-
-same_from_test : (a b : ℕ) → nat_eq a b ≡ true → a ≡ b
-same_from_test a b h = grind arith
 
 before_bracket_sound : (text inner : List ℕ) → before_bracket text ≡ Some inner → text ≡ inner ++ 93 ∷ []
 before_bracket_sound [] inner h = cc
@@ -79,6 +73,7 @@ no_name_empty : (name : List ℕ) → SpellsName [] name → ⊥
 no_name_empty name h = false_true (name_labels [] name h)
 
 pub read_host_complete : (text : List ℕ) (host : Host) → SpellsHost text host → read_host text ≡ Some host
+unfolding read_host
 read_host_complete [] (Name name) h = absurd (no_name_empty name h)
 read_host_complete (b ∷ bs) (Name name) h = go (nat_eq b 91) (read_v4 (b ∷ bs)) refl refl
   where
@@ -97,6 +92,7 @@ read_host_complete (b ∷ bs) (V4 bytes) h = go (nat_eq b 91) refl
 read_host_complete text (V6 bytes) h = ap read_host h.spelled ∙ ap (option_map V6) (read_closed_complete h.inner bytes h.address)
 
 pub read_host_sound : (text : List ℕ) (host : Host) → read_host text ≡ Some host → SpellsHost text host
+unfolding read_host
 read_host_sound [] host h = cc
 read_host_sound (b ∷ bs) host h = go (nat_eq b 91) (read_v4 (b ∷ bs)) (read_name (b ∷ bs)) (read_closed bs) refl refl refl refl h
   where

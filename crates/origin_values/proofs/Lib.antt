@@ -2,6 +2,7 @@ pub mod AddressTexts
 pub mod Addresses
 pub mod AsciiTexts
 pub mod HostTexts
+pub mod Comparisons
 pub mod Hosts
 pub mod Names
 pub mod OriginTexts

@@ -1,5 +1,5 @@
 -- The reading of a host's name against its grammar.
-use Rattle.std.proofs.Common.{◌≡◌, ℕ, suc, ◌+◌, Option, None, Some, map, append-nil, append_assoc, decimal, ◌||◌, ap₂, ◌<◌, ◌≤◌, Bool, true, false, ◌&&◌, not, cond, nat_eq, nat_lt, nat_le, List, [], ◌∷◌, ◌++◌, length, refl, ap, sym, ◌∙◌, subst, arith}
+use Rattle.std.proofs.Common.{◌≡◌, ℕ, suc, ◌+◌, None, Some, map, append-nil, append_assoc, decimal, ◌||◌, ap₂, ◌<◌, ◌≤◌, Bool, true, false, ◌&&◌, not, cond, nat_eq, nat_lt, nat_le, List, [], ◌∷◌, ◌++◌, length, refl, ap, sym, ◌∙◌, subst, arith}
 use Rattle.std.specs.List.{list_all, join_with_byte}
 use Rattle.std.specs.Char.{is_ascii_digit, digit_value, to_ascii_lowercase}
 use Rattle.std.specs.Str.Parse.{AllDigits}
@@ -8,8 +8,9 @@ use Rattle.std.specs.Net.Grammar.{IsDotted}
 use Rattle.std.proofs.lemmas.Str.Parse.{digit_from_value}
 use Rattle.std.proofs.lemmas.Fmt.{decimal_is_IsNumeral, length-decimal-le}
 use Rattle.alt_base.specs.Classes.{in_ranges, host_name_class}
-use Rattle.origin_values.specs.HostGrammar.{IsLabel, AreLabels, SpellsName}
+use Rattle.origin_values.specs.HostGrammar.{AreLabels, SpellsName}
 use Rattle.origin_values.specs.HostReading.{are_labels, is_name, read_name}
+use Rattle.origin_values.proofs.Comparisons.{both, and_from, and_false, same_from_test, lt_from_test, test_from_lt, le_from_test, test_from_le}
 
 -- a byte of a label
 abbrev of_label : ℕ → Bool
@@ -25,26 +26,6 @@ record IsPiece (count : ℕ) (piece : List ℕ) : Type 0 where
 abbrev Follow : ℕ → Bool → List ℕ → List (List ℕ) → Type 0
 Follow count digits piece [] = IsPiece count piece × ((digits && list_all is_ascii_digit piece) ≡ false)
 Follow count digits piece (next ∷ labels) = IsPiece count piece × AreLabels (next ∷ labels)
-
-same_from_test : (a b : ℕ) → nat_eq a b ≡ true → a ≡ b
-same_from_test a b h = grind arith
-
-both : (a b : Bool) → (a && b) ≡ true → (a ≡ true) × (b ≡ true)
-both true true h = (refl, refl)
-both true false h = cc
-both false b h = cc
-
-lt_from_test : (a b : ℕ) → nat_lt a b ≡ true → a < b
-lt_from_test a b h = grind arith
-
-le_from_test : (a b : ℕ) → nat_le a b ≡ true → a ≤ b
-le_from_test a b h = grind arith
-
-test_from_lt : (a b : ℕ) → a < b → nat_lt a b ≡ true
-test_from_lt a b h = grind arith
-
-pub test_from_le : (a b : ℕ) → a ≤ b → nat_le a b ≡ true
-test_from_le a b h = grind arith
 
 not_true : (a : Bool) → not a ≡ true → a ≡ false
 not_true true h = cc
@@ -180,9 +161,6 @@ or_left : (a b c : Bool) → b ≡ true → (a || (b || c)) ≡ true
 or_left true b c h = refl
 or_left false b c h = rw h refl
 
-pub and_from : (a b : Bool) → a ≡ true → b ≡ true → (a && b) ≡ true
-and_from a b h k = rw (h, k) refl
-
 digit_of_label : (c : ℕ) → digit_value c < 10 → (is_ascii_digit c ≡ true) × (of_label c ≡ true)
 digit_of_label c h =
     let range = digit_from_value c h in
@@ -198,10 +176,6 @@ digits_of_label (c ∷ ds) h =
 
 pub digits_pass : (ds : List ℕ) → AllDigits 10 ds → list_all is_ascii_digit ds ≡ true
 digits_pass ds h = (digits_of_label ds h).0
-
-and_false : (a b : Bool) → b ≡ false → (a && b) ≡ false
-and_false true b h = h
-and_false false b h = refl
 
 -- a decimal number of a byte before a dot, and at the end
 digits_at_dot : (n : ℕ) (rest : List ℕ) → n < 256 → are_labels 0 true rest ≡ false → are_labels 0 true (decimal n ++ 46 ∷ rest) ≡ false

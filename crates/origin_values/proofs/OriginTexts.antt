@@ -1,8 +1,7 @@
 -- Origins that were read are valid, and the text of a valid origin spells it.
-use Rattle.std.proofs.Common.{◌≡◌, ◌≢◌, ◌⊎◌, ℕ, ◌+◌, ◌^◌, ◌<◌, ◌≤◌, Bool, true, false, cond, ◌&&◌, ◌||◌, not, nat_eq, nat_lt, nat_le, List, [], ◌∷◌, ◌++◌, length, map, All, Option, Some, Result, Ok, Err, decimal, refl, ap, ap₂, sym, ◌∙◌, subst, arith, inl, inr, append_assoc}
+use Rattle.std.proofs.Common.{◌≡◌, ◌≢◌, ◌⊎◌, ℕ, ◌+◌, ◌^◌, ◌<◌, ◌≤◌, Bool, true, false, cond, ◌&&◌, ◌||◌, nat_eq, nat_lt, nat_le, List, [], ◌∷◌, ◌++◌, Ok, decimal, refl, sym, subst, arith, inl, inr, append_assoc}
 use Rattle.std.specs.List.{list_all, list_any, AllByRecursion}
-use Rattle.std.specs.Int.{IsInRange}
-use Rattle.std.specs.Char.{is_ascii, is_ascii_digit, to_ascii_lowercase}
+use Rattle.std.specs.Char.{is_ascii, is_ascii_digit}
 use Rattle.std.specs.Net.Addr.{segments_of}
 use Rattle.std.specs.Net.Text.{ipv4_text}
 use Rattle.std.proofs.lemmas.List.Elements.{recursion_from_All}
@@ -10,9 +9,8 @@ use Rattle.std.proofs.NetLemmas.Alphabet.{IsDigitOrDot, IsHexOrColon, All-ipv4_t
 use Rattle.std.proofs.NetLemmas.Texts.{IsPortText-decimal}
 use Rattle.alt_base.specs.Classes.{in_ranges, host_name_class, is_between}
 use Rattle.origin_values.specs.DefaultPort.{default_port_of}
-use Rattle.origin_values.specs.HostGrammar.{SpellsName}
 use Rattle.origin_values.specs.HostReading.{are_labels}
-use Rattle.origin_values.specs.OriginGrammar.{ends_host, BeginsWith, FollowsHost, IsBracketed, IsLongestRun, IsRun, SpellsScheme, SpellsRun, SpellsPort, SpellsOrigin}
+use Rattle.origin_values.specs.OriginGrammar.{ends_host, BeginsWith, FollowsHost, IsRun, SpellsScheme, SpellsRun, SpellsPort, SpellsOrigin}
 use Rattle.origin_values.specs.OriginReading.{read_origin}
 use Rattle.origin_values.specs.Valid.{AreBytes, IsHost, IsOrigin}
 use Rattle.origin_values.specs.Written.{scheme_text, host_text, v6_text, port_text, origin_text}
@@ -25,30 +23,11 @@ use Rattle.origin_values.proofs.AddressTexts.{at_each, groups_of}
 use Rattle.origin_values.proofs.HostTexts.{host_valid, host_written}
 use Rattle.origin_values.proofs.Names.{name_labels}
 use Rattle.origin_values.proofs.Origins.{origin_complete}
-
-both : (a b : Bool) → (a && b) ≡ true → (a ≡ true) × (b ≡ true)
-both true true h = (refl, refl)
-both true false h = cc
-both false b h = cc
+use Rattle.origin_values.proofs.Comparisons.{both, same_from_test, test_from_other, test_from_lt, le_from_test}
 
 or_cases : (a b : Bool) → (a || b) ≡ true → (a ≡ true) ⊎ (b ≡ true)
 or_cases true b h = inl refl
 or_cases false b h = inr h
-
-le_from_test : (a b : ℕ) → nat_le a b ≡ true → a ≤ b
-le_from_test a b h = grind arith
-
-test_from_lt : (a b : ℕ) → a < b → nat_lt a b ≡ true
-test_from_lt a b h = grind arith
-
-test_from_other : (a b : ℕ) → (a ≡ b → ⊥) → nat_eq a b ≡ false
-test_from_other a b h = grind arith
-
-same_from_test : (a b : ℕ) → nat_eq a b ≡ true → a ≡ b
-same_from_test a b h = grind arith
-
-other_from_test : (a b : ℕ) → nat_eq a b ≡ false → a ≢ b
-other_from_test a b h e = grind arith
 
 between : (b low high : ℕ) → is_between b (low, high) ≡ true → (low ≤ b) × (b ≤ high)
 between b low high h = let t = both (nat_le low b) (nat_le b high) h in (le_from_test low b t.0, le_from_test b high t.1)

@@ -1,8 +1,8 @@
 -- The reading of origins against their grammar.
-use Rattle.std.proofs.Common.{◌≡◌, ◌⊎◌, ℕ, ◌+◌, ◌^◌, ◌<◌, ◌≤◌, Bool, true, false, List, [], ◌∷◌, ◌++◌, length, take, drop, Option, Some, None, Result, Ok, Err, refl, ap, sym, ◌∙◌, subst, arith, inl, inr}
+use Rattle.std.proofs.Common.{◌≡◌, ◌⊎◌, ℕ, ◌+◌, List, ◌∷◌, ◌++◌, length, take, drop, Option, Some, None, Result, Ok, Err, refl, ap, sym, ◌∙◌, subst, inl, inr}
 use Rattle.alt_base.specs.declared.refusal.At.{At}
-use Rattle.origin_values.specs.OriginGrammar.{SpellsScheme, IsRun, SpellsRun, SpellsPort, SpellsOrigin, IsBadScheme, IsBadHost, IsBadPort, IsTrailing, OriginRefusedAt, OneOrigin}
-use Rattle.origin_values.specs.OriginReading.{host_end, read_run, read_port, host_then_port, read_run_of, read_rest, read_origin, refused}
+use Rattle.origin_values.specs.OriginGrammar.{SpellsScheme, IsRun, SpellsRun, SpellsOrigin, IsBadHost, OriginRefusedAt, OneOrigin}
+use Rattle.origin_values.specs.OriginReading.{host_end, read_run, read_port, host_then_port, read_run_of, read_rest, read_origin, refusal_at}
 use Rattle.origin_values.specs.declared.scheme.Scheme.{Scheme}
 use Rattle.origin_values.specs.declared.host.Host.{Host}
 use Rattle.origin_values.specs.declared.origin.Origin.{Origin}
@@ -28,27 +28,27 @@ origin_complete text origin s =
 none_some : {A : Type 0} (x : A) → None ≡ Some x → ⊥
 none_some x e = cc
 
-no_host_reads : (scheme : Scheme) (place : ℕ) (rest : List ℕ) → ((run tail : List ℕ) (host : Host) → rest ≡ run ++ tail → IsRun run tail → SpellsRun run host → ⊥) → read_rest scheme place rest ≡ refused place BadHost
+no_host_reads : (scheme : Scheme) (place : ℕ) (rest : List ℕ) → ((run tail : List ℕ) (host : Host) → rest ≡ run ++ tail → IsRun run tail → SpellsRun run host → ⊥) → read_rest scheme place rest ≡ refusal_at place BadHost
 no_host_reads scheme place rest none = go (host_end rest) refl
   where
-    at : (end : ℕ) (o : Option Host) → host_end rest ≡ Some end → read_run (take end rest) ≡ o → host_then_port scheme place rest end o ≡ refused place BadHost
+    at : (end : ℕ) (o : Option Host) → host_end rest ≡ Some end → read_run (take end rest) ≡ o → host_then_port scheme place rest end o ≡ refusal_at place BadHost
     at end None is found = refl
     at end (Some host) is found =
         let h = run_found rest end is in
         let same : take end rest ≡ h.run = ap (λ n. take n rest) h.count ∙ ap (take (length h.run)) h.spelled ∙ take_front h.run h.tail in
         absurd (none h.run h.tail host h.spelled h.is_run (run_sound h.run host (ap read_run (sym same) ∙ found)))
 
-    go : (o : Option ℕ) → host_end rest ≡ o → read_run_of scheme place rest o ≡ refused place BadHost
+    go : (o : Option ℕ) → host_end rest ≡ o → read_run_of scheme place rest o ≡ refusal_at place BadHost
     go None is = refl
     go (Some end) is = at end (read_run (take end rest)) is refl
 
-refused_at : (p q : ℕ) (reason : OriginRefusal) → p ≡ q → refused p reason ≡ refused q reason
-refused_at p q reason e = ap (λ n. refused n reason) e
+refused_at : (p q : ℕ) (reason : OriginRefusal) → p ≡ q → refusal_at p reason ≡ refusal_at q reason
+refused_at p q reason e = ap (λ n. refusal_at n reason) e
 
-pub origin_refused : (text : List ℕ) (place : ℕ) (reason : OriginRefusal) → OriginRefusedAt text place reason → read_origin text ≡ refused place reason
+pub origin_refused : (text : List ℕ) (place : ℕ) (reason : OriginRefusal) → OriginRefusedAt text place reason → read_origin text ≡ refusal_at place reason
 origin_refused text place BadScheme s = go (scheme_found text)
   where
-    go : HasScheme text ⊎ HasNoScheme text → read_origin text ≡ refused place BadScheme
+    go : HasScheme text ⊎ HasNoScheme text → read_origin text ≡ refusal_at place BadScheme
     go (inl h) = absurd (s.none h.letters h.rest h.scheme h.spelled h.of_scheme)
     go (inr h) = h.reads ∙ refused_at 0 place BadScheme (sym s.at)
 origin_refused text place BadHost s =
@@ -185,7 +185,7 @@ ok_of origin = Ok origin
 same_origin_value : (a b : Origin) → ok_of a ≡ ok_of b → a ≡ b
 same_origin_value a b e = cc
 
-same_refusal : (p q : ℕ) (r s : OriginRefusal) → refused p r ≡ refused q s → (p ≡ q) × (r ≡ s)
+same_refusal : (p q : ℕ) (r s : OriginRefusal) → refusal_at p r ≡ refusal_at q s → (p ≡ q) × (r ≡ s)
 same_refusal p q r s e =
     let h : at p r ≡ at q s = err_same (at p r) (at q s) e in (ap (λ (x : At OriginRefusal). x.place) h, ap (λ (x : At OriginRefusal). x.reason) h)
   where
@@ -195,7 +195,7 @@ same_refusal p q r s e =
     err_same : (a b : At OriginRefusal) → ◌≡◌ {A = Result Origin (At OriginRefusal)} (Err a) (Err b) → a ≡ b
     err_same a b f = cc
 
-ok_err : (origin : Origin) (p : ℕ) (r : OriginRefusal) → ok_of origin ≡ refused p r → ⊥
+ok_err : (origin : Origin) (p : ℕ) (r : OriginRefusal) → ok_of origin ≡ refusal_at p r → ⊥
 ok_err origin p r e = cc
 
 pub one_origin_of : (text : List ℕ) → OneOrigin text

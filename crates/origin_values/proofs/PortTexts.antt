@@ -1,13 +1,12 @@
 -- What follows the host in an origin's text, against the grammar.
-use Rattle.std.proofs.Common.{◌≡◌, ◌≢◌, ◌⊎◌, ℕ, suc, ◌+◌, ◌^◌, ◌<◌, ◌≤◌, Bool, true, false, cond, ◌&&◌, not, nat_eq, nat_lt, List, [], ◌∷◌, ◌++◌, length, take, drop, codes, Option, Some, None, Result, Ok, Err, refl, ap, ap₂, sym, ◌∙◌, subst, arith, inl, inr, append-nil}
+use Rattle.std.proofs.Common.{◌≡◌, ◌⊎◌, ℕ, suc, ◌+◌, ◌^◌, ◌<◌, ◌≤◌, Bool, true, false, nat_eq, nat_lt, List, [], ◌∷◌, ◌++◌, length, take, drop, Some, None, Result, Ok, Err, refl, ap, sym, ◌∙◌, subst, arith, inl, inr, append-nil}
 use Rattle.std.specs.List.{list_all}
-use Rattle.std.specs.Char.{is_ascii_digit, digit_value}
+use Rattle.std.specs.Char.{is_ascii_digit}
 use Rattle.std.specs.Str.Parse.{IsNumeral, AllDigits, digits_value}
-use Rattle.std.specs.Net.Grammar.{IsPortText}
 use Rattle.alt_base.specs.declared.refusal.At.{At}
 use Rattle.origin_values.specs.DefaultPort.{default_port_of}
 use Rattle.origin_values.specs.OriginGrammar.{SpellsPort, NoDigit, IsLeft}
-use Rattle.origin_values.specs.OriginReading.{count_before, digits_before, port_of, port_then_end, at_end, read_digits, read_port, refused}
+use Rattle.origin_values.specs.OriginReading.{digits_before, port_of, port_then_end, at_end, read_digits, read_port, refusal_at}
 use Rattle.origin_values.specs.declared.scheme.Scheme.{Scheme}
 use Rattle.origin_values.specs.declared.host.Host.{Host}
 use Rattle.origin_values.specs.declared.origin.Origin.{Origin}
@@ -15,14 +14,10 @@ use Rattle.origin_values.specs.declared.refusal.OriginRefusal.{OriginRefusal}
 use Rattle.origin_values.specs.declared.refusal.OriginRefusal.TheVariants.{BadScheme, BadHost, BadPort, Trailing}
 use Rattle.origin_values.proofs.Names.{digits_pass}
 use Rattle.origin_values.proofs.Ports.{digit_code, value_of_digit}
+use Rattle.origin_values.proofs.Comparisons.{both, and_false, same_from_test, other_from_test, test_from_other, lt_from_test, ge_from_test, test_from_lt, test_from_ge}
 
 plus_one : (n : ℕ) → n + 1 ≡ suc n
 plus_one n = omega arith
-
-both : (a b : Bool) → (a && b) ≡ true → (a ≡ true) × (b ≡ true)
-both true true h = (refl, refl)
-both true false h = cc
-both false b h = cc
 
 digits_are : (ds : List ℕ) → list_all is_ascii_digit ds ≡ true → AllDigits 10 ds
 digits_are [] h = tt
@@ -47,31 +42,6 @@ drop_front (b ∷ front) rest = drop_front front rest
 
 not_zero : (n : ℕ) → 0 < n → nat_eq n 0 ≡ false
 not_zero n h = grind arith
-
-test_from_lt : (a b : ℕ) → a < b → nat_lt a b ≡ true
-test_from_lt a b h = grind arith
-
-test_from_ge : (a b : ℕ) → b ≤ a → nat_lt a b ≡ false
-test_from_ge a b h = grind arith
-
-lt_from_test : (a b : ℕ) → nat_lt a b ≡ true → a < b
-lt_from_test a b h = grind arith
-
-ge_from_test : (a b : ℕ) → nat_lt a b ≡ false → b ≤ a
-ge_from_test a b h = grind arith
-
-other_from_test : (a b : ℕ) → nat_eq a b ≡ false → a ≢ b
-other_from_test a b h e = grind arith
-
-test_from_other : (a b : ℕ) → (a ≡ b → ⊥) → nat_eq a b ≡ false
-test_from_other a b h = grind arith
-
-same_from_test : (a b : ℕ) → nat_eq a b ≡ true → a ≡ b
-same_from_test a b h = grind arith
-
-and_false : (a b : Bool) → b ≡ false → (a && b) ≡ false
-and_false true b h = h
-and_false false b h = refl
 
 pub port_good : (digits : List ℕ) (port : ℕ) → digits_value 10 digits ≡ port → 1 ≤ port → port < 2 ^ 16 → port_of digits ≡ Some port
 port_good digits port is some short =
@@ -105,7 +75,7 @@ module _ (scheme : Scheme) (host : Host) where
       ∙ ap (at_end (with_port port) (place + 1 + length digits)) (drop_front digits rest)
 
   pub port_refused : (place : ℕ) (digits rest : List ℕ) → IsNumeral 10 digits → NoDigit rest → (digits_value 10 digits ≡ 0) ⊎ (65535 < digits_value 10 digits)
-      → read_port scheme host place (58 ∷ (digits ++ rest)) ≡ refused (place + 1) BadPort
+      → read_port scheme host place (58 ∷ (digits ++ rest)) ≡ refusal_at (place + 1) BadPort
   port_refused place digits rest numeral none bad =
       colon_digits place digits rest numeral none ∙ ap (port_then_end scheme host (place + 1) (length digits) (digits ++ rest)) (port_bad digits bad)
 
@@ -116,23 +86,23 @@ module _ (scheme : Scheme) (host : Host) where
       ap (read_port scheme host place) (spells.1 ∙ ap (λ xs. 58 ∷ xs) (sym (append-nil spells.0)))
       ∙ colon_port place spells.0 [] port spells.2.0 tt spells.2.1 some spells.3
 
-  ends_at : (p q : ℕ) → p ≡ q → refused p Trailing ≡ refused q Trailing
-  ends_at p q e = ap (λ n. refused n Trailing) e
+  ends_at : (p q : ℕ) → p ≡ q → refusal_at p Trailing ≡ refusal_at q Trailing
+  ends_at p q e = ap (λ n. refusal_at n Trailing) e
 
   left_of_digits : (c : ℕ) (port rest : List ℕ) → IsLeft (c ∷ port) rest → NoDigit rest
   left_of_digits c port [] h = tt
   left_of_digits c port (b ∷ bs) h = h
 
-  at_left : (origin : Origin) (place : ℕ) (c : ℕ) (port rest : List ℕ) → IsLeft (c ∷ port) rest → at_end origin place rest ≡ refused place Trailing
+  at_left : (origin : Origin) (place : ℕ) (c : ℕ) (port rest : List ℕ) → IsLeft (c ∷ port) rest → at_end origin place rest ≡ refusal_at place Trailing
   at_left origin place c port [] h = absurd h
   at_left origin place c port (b ∷ bs) h = refl
 
-  nothing_read : (place : ℕ) (rest : List ℕ) → IsLeft [] rest → read_port scheme host place rest ≡ refused place Trailing
+  nothing_read : (place : ℕ) (rest : List ℕ) → IsLeft [] rest → read_port scheme host place rest ≡ refusal_at place Trailing
   nothing_read place [] h = absurd h
   nothing_read place (b ∷ bs) h = rw (test_from_other b 58 h) refl
 
   pub port_trailing : (place : ℕ) (port rest : List ℕ) (number : ℕ) → SpellsPort scheme port number → IsLeft port rest
-      → read_port scheme host place (port ++ rest) ≡ refused (place + length port) Trailing
+      → read_port scheme host place (port ++ rest) ≡ refusal_at (place + length port) Trailing
   port_trailing place port rest number (inl (inl none, value)) left =
       ap (λ xs. read_port scheme host place (xs ++ rest)) none ∙ nothing_read place rest (subst (λ xs. IsLeft xs rest) none left)
       ∙ ends_at place (place + length port) (omega (arith, ap length none))

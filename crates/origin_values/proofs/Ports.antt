@@ -1,25 +1,12 @@
 -- The digits of a port.
-use Rattle.std.proofs.Common.{◌≡◌, ◌≢◌, ◌⊎◌, ℕ, suc, ◌+◌, ◌-◌, ◌*◌, ◌<◌, ◌≤◌, Bool, true, false, cond, ◌&&◌, not, nat_eq, nat_lt, nat_le, min, List, [], ◌∷◌, ◌++◌, length, take, drop, get_or, refl, ap, ap₂, sym, ◌∙◌, subst, arith, inl, inr, add-one}
+use Rattle.std.proofs.Common.{◌≡◌, ◌⊎◌, ℕ, ◌+◌, ◌-◌, ◌*◌, ◌<◌, ◌≤◌, Bool, true, false, cond, not, nat_le, min, List, [], ◌∷◌, length, take, drop, get_or, refl, ap, sym, ◌∙◌, subst, arith, inl, inr, add-one}
 use Rattle.std.proofs.lemmas.Bool.{cases_lt}
 use Rattle.std.proofs.Math.Seq.{drop-cons}
 use Rattle.std.specs.List.{list_all}
 use Rattle.std.specs.Char.{is_ascii_digit, digit_value}
-use Rattle.std.specs.Str.Parse.{digits_value_after, digits_value, AllDigits}
-use Rattle.origin_values.specs.OriginReading.{count_before, digits_before}
-
-both : (a b : Bool) → (a && b) ≡ true → (a ≡ true) × (b ≡ true)
-both true true h = (refl, refl)
-both true false h = cc
-both false b h = cc
-
-le_from_test : (a b : ℕ) → nat_le a b ≡ true → a ≤ b
-le_from_test a b h = grind arith
-
-test_from_lt : (a b : ℕ) → a < b → nat_lt a b ≡ true
-test_from_lt a b h = grind arith
-
-test_from_ge : (a b : ℕ) → b ≤ a → nat_lt a b ≡ false
-test_from_ge a b h = grind arith
+use Rattle.std.specs.Str.Parse.{digits_value_after}
+use Rattle.origin_values.specs.OriginReading.{digits_before}
+use Rattle.origin_values.proofs.Comparisons.{both, test_from_lt, test_from_ge, le_from_test}
 
 -- a digit's code and value
 pub digit_code : (b : ℕ) → is_ascii_digit b ≡ true → (48 ≤ b) × (b ≤ 57)

@@ -1,25 +1,19 @@
 -- The bytes of a host in an origin's text.
-use Rattle.std.proofs.Common.{◌≡◌, ◌⊎◌, ℕ, suc, ◌+◌, ◌<◌, ◌≤◌, Bool, true, false, cond, ◌&&◌, ◌||◌, nat_eq, List, [], ◌∷◌, ◌++◌, length, take, drop, Option, Some, None, option_map, refl, ap, ap₂, sym, ◌∙◌, subst, arith, inl, inr, append_assoc, length-append}
+use Rattle.std.proofs.Common.{◌≡◌, ℕ, suc, ◌+◌, Bool, true, false, cond, ◌||◌, nat_eq, List, [], ◌∷◌, ◌++◌, length, Option, Some, None, option_map, refl, ap, sym, ◌∙◌, subst, arith, inl, inr, append_assoc, length-append}
 use Rattle.std.specs.List.{list_all, list_any}
 use Rattle.std.specs.Char.{is_ascii}
 use Rattle.idna.specs.Uts46.{domain_to_ascii}
 use Rattle.idna.specs.declared.deny_list.TheConstants.AsciiDenyList.{URL}
-use Rattle.origin_values.specs.HostGrammar.{SpellsHost}
 use Rattle.origin_values.specs.HostReading.{read_host}
-use Rattle.origin_values.specs.OriginGrammar.{ends_host, IsBracketed, IsLongestRun, IsRun, FollowsHost, BeginsWith, SpellsMapped, SpellsRun}
+use Rattle.origin_values.specs.OriginGrammar.{ends_host, IsRun, FollowsHost, BeginsWith, SpellsMapped, SpellsRun}
 use Rattle.origin_values.specs.OriginReading.{count_before, bracket_end, host_end, read_mapped, read_run}
 use Rattle.origin_values.specs.declared.host.Host.{Host}
 use Rattle.origin_values.proofs.Hosts.{read_host_sound, read_host_complete}
+use Rattle.origin_values.proofs.Comparisons.{same_from_test, test_from_other}
 
 neither : (a b : Bool) → (a || b) ≡ false → (a ≡ false) × (b ≡ false)
 neither true b h = cc
 neither false b h = (refl, h)
-
-same_from_test : (a b : ℕ) → nat_eq a b ≡ true → a ≡ b
-same_from_test a b h = grind arith
-
-test_from_other : (a b : ℕ) → (a ≡ b → ⊥) → nat_eq a b ≡ false
-test_from_other a b h = grind arith
 
 plus_zero : (n : ℕ) → n + 1 ≡ suc n
 plus_zero n = omega arith

@@ -1,30 +1,18 @@
 -- The scheme at the front of an origin's text.
-use Rattle.std.proofs.Common.{◌≡◌, ◌⊎◌, ℕ, suc, ◌+◌, ◌<◌, ◌≤◌, Bool, true, false, cond, ◌&&◌, nat_eq, List, [], ◌∷◌, ◌++◌, length, map, take, drop, codes, refl, ap, ap₂, sym, ◌∙◌, subst, arith, inl, inr, take-append-drop}
+use Rattle.std.proofs.Common.{◌≡◌, ◌⊎◌, ℕ, ◌≤◌, Bool, true, false, cond, ◌&&◌, nat_eq, List, [], ◌∷◌, ◌++◌, length, map, take, drop, codes, refl, ap, ap₂, sym, ◌∙◌, arith, inl, inr, take-append-drop}
 use Rattle.std.specs.Char.{to_ascii_lowercase}
 use Rattle.origin_values.specs.OriginGrammar.{SpellsScheme}
-use Rattle.origin_values.specs.OriginReading.{begins, read_rest, read_origin, refused}
-use Rattle.origin_values.specs.Written.{scheme_text}
+use Rattle.origin_values.specs.OriginReading.{begins, read_rest, read_origin, refusal_at}
 use Rattle.origin_values.specs.declared.scheme.Scheme.{Scheme}
 use Rattle.origin_values.specs.declared.scheme.Scheme.TheVariants.{Http, Https}
 use Rattle.origin_values.specs.declared.refusal.OriginRefusal.TheVariants.{BadScheme}
+use Rattle.origin_values.proofs.Comparisons.{both, same_from_test, length_lower}
 
 -- whether a list begins with another
 abbrev starts : List ℕ → List ℕ → Bool
 starts [] text = true
 starts (c ∷ front) [] = false
 starts (c ∷ front) (b ∷ bs) = nat_eq b c && starts front bs
-
-both : (a b : Bool) → (a && b) ≡ true → (a ≡ true) × (b ≡ true)
-both true true h = (refl, refl)
-both true false h = cc
-both false b h = cc
-
-same_from_test : (a b : ℕ) → nat_eq a b ≡ true → a ≡ b
-same_from_test a b h = grind arith
-
-length_lower : (text : List ℕ) → length (map to_ascii_lowercase text) ≡ length text
-length_lower [] = refl
-length_lower (b ∷ bs) = omega (arith, length_lower bs)
 
 begins_by_letters : (front letters rest : List ℕ) → length front ≤ length letters → begins front (letters ++ rest) ≡ starts front (map to_ascii_lowercase letters)
 begins_by_letters [] letters rest short = refl
@@ -50,6 +38,7 @@ cond_false t x y h = rw h refl
 
 -- a scheme's text, and then what follows it
 pub scheme_reads : (letters rest : List ℕ) (scheme : Scheme) → SpellsScheme letters scheme → read_origin (letters ++ rest) ≡ read_rest scheme (length letters) rest
+unfolding read_origin
 scheme_reads letters rest Http h =
     let count : length letters ≡ 7 = sym (length_lower letters) ∙ ap length h in
     let is : begins (codes "http://") (letters ++ rest) ≡ true = begins_by_letters (codes "http://") letters rest (omega arith) ∙ ap (starts (codes "http://")) h in
@@ -70,7 +59,7 @@ pub record HasScheme (text : List ℕ) : Type 0 where
 
 pub record HasNoScheme (text : List ℕ) : Type 0 where
   pub none : (letters rest : List ℕ) (scheme : Scheme) → text ≡ letters ++ rest → SpellsScheme letters scheme → ⊥
-  pub reads : read_origin text ≡ refused 0 BadScheme
+  pub reads : read_origin text ≡ refusal_at 0 BadScheme
 
 true_false : (t : Bool) → t ≡ true → t ≡ false → ⊥
 true_false t h k = clash (sym h ∙ k)
@@ -88,6 +77,7 @@ neither text http https letters rest Https spelled h =
     true_false _ (ap (begins (codes "https://")) spelled ∙ (begins_by_letters (codes "https://") letters rest (omega arith) ∙ ap (starts (codes "https://")) h)) https
 
 pub scheme_found : (text : List ℕ) → HasScheme text ⊎ HasNoScheme text
+unfolding read_origin
 scheme_found text = go (begins (codes "http://") text) (begins (codes "https://") text) refl refl
   where
     go : (s t : Bool) → begins (codes "http://") text ≡ s → begins (codes "https://") text ≡ t → HasScheme text ⊎ HasNoScheme text

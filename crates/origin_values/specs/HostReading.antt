@@ -1,5 +1,5 @@
 -- Reading an address, a name or a host.
-use Rattle.std.specs.Prelude.{ℕ, ◌+◌, Bool, true, false, ◌&&◌, not, nat_eq, nat_lt, nat_le, List, [], ◌∷◌, length, map, Option, None, Some, option_map, option_and_then, Result, Ok, Err, if◌then◌else◌}
+use Rattle.std.specs.Prelude.{ℕ, ◌+◌, Bool, true, ◌&&◌, not, nat_eq, nat_lt, nat_le, List, [], ◌∷◌, length, map, Option, None, Some, option_map, option_and_then, Result, Ok, Err, if◌then◌else◌}
 use Rattle.std.specs.Char.{is_ascii_digit, to_ascii_lowercase}
 use Rattle.std.specs.Net.Addr.{octets_of}
 use Rattle.std.specs.Net.Reader.{read_ipv4, read_ipv6, whole_value}
@@ -12,9 +12,11 @@ use Rattle.origin_values.specs.declared.address.Addr.TheVariants as address
 use Rattle.origin_values.specs.declared.host.Host.{Host}
 use Rattle.origin_values.specs.declared.host.Host.TheVariants.{Name, V4, V6}
 
+-- the bytes of an IPv4 address
 unfoldable pub read_v4 : List ℕ → Option (List ℕ)
 read_v4 text = whole_value (read_ipv4 text)
 
+-- the bytes of an IPv6 address
 unfoldable pub read_v6 : List ℕ → Option (List ℕ)
 read_v6 text = option_map octets_of (whole_value (read_ipv6 text))
 
@@ -23,7 +25,7 @@ abbrev pub first_of_two : {A : Type 0} → Option A → Option A → Option A
 first_of_two (Some value) other = Some value
 first_of_two None other = other
 
-abbrev pub read_addr : List ℕ → Option Addr
+unfoldable pub read_addr : List ℕ → Option Addr
 read_addr text = first_of_two (option_map address.V4 (read_v4 text)) (option_map address.V6 (read_v6 text))
 
 -- the labels of a name, behind this many bytes of the first, which are digits alone or aren't
@@ -33,6 +35,7 @@ are_labels count digits (b ∷ bs) =
     if nat_eq b 46 then nat_lt 0 count && are_labels 0 true bs
     else (nat_lt count 63 && (in_ranges host_name_class b && are_labels (count + 1) (digits && is_ascii_digit b) bs))
 
+-- at most 253 bytes, which are labels
 abbrev pub is_name : List ℕ → Bool
 is_name text = nat_le (length text) 253 && are_labels 0 true text
 
@@ -49,7 +52,7 @@ before_bracket (b ∷ c ∷ bs) = option_map (λ front. b ∷ front) (before_bra
 abbrev pub read_closed : List ℕ → Option (List ℕ)
 read_closed text = option_and_then read_v6 (before_bracket text)
 
-abbrev pub read_host : List ℕ → Option Host
+unfoldable pub read_host : List ℕ → Option Host
 read_host [] = None
 read_host (b ∷ bs) =
     if nat_eq b 91 then option_map V6 (read_closed bs)

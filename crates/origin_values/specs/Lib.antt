@@ -8,3 +8,4 @@ pub mod Valid
 pub mod OriginGrammar
 pub mod OriginReading
 pub mod AsciiOrigin
+pub mod ZeroRuns

@@ -1,5 +1,5 @@
 -- The texts of origins, each beside what it stands for, by how the text splits; and the table of refusals.
-use Rattle.std.specs.Prelude.{◌≡◌, ◌≢◌, ◌⊎◌, ℕ, ◌+◌, ◌<◌, ◌≤◌, ◌^◌, Bool, true, false, ◌||◌, List, [], ◌∷◌, ◌++◌, length, map, codes, nat_eq, Some}
+use Rattle.std.specs.Prelude.{◌≡◌, ◌≢◌, ◌⊎◌, ℕ, ◌+◌, ◌<◌, ◌≤◌, Bool, true, false, ◌||◌, List, [], ◌∷◌, ◌++◌, length, map, nat_eq, Some}
 use Rattle.std.specs.List.{list_all, list_any}
 use Rattle.std.specs.Char.{is_ascii, is_ascii_digit, to_ascii_lowercase}
 use Rattle.std.specs.Str.Parse.{IsNumeral, digits_value}
@@ -84,7 +84,8 @@ pub record IsBadScheme (text : List ℕ) (place : ℕ) : Type 0 where
   pub none : (letters rest : List ℕ) (scheme : Scheme) → text ≡ letters ++ rest → SpellsScheme letters scheme → ⊥
   pub at : place ≡ 0
 
--- no host follows the scheme
+-- no host follows the scheme: its bytes spell none, its bracket isn't closed, ToASCII gives nothing for them, or what
+-- it gives holds `_`
 pub record IsBadHost (text : List ℕ) (place : ℕ) : Type 0 where
   pub letters : List ℕ
   pub rest : List ℕ

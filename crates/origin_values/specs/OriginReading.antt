@@ -1,5 +1,5 @@
 -- Reading an origin.
-use Rattle.std.specs.Prelude.{ℕ, ◌+◌, Bool, true, false, ◌&&◌, not, nat_eq, nat_lt, List, [], ◌∷◌, length, take, drop, codes, Option, None, Some, option_map, Result, Ok, Err, if◌then◌else◌}
+use Rattle.std.specs.Prelude.{ℕ, ◌+◌, Bool, true, false, ◌&&◌, not, nat_eq, nat_lt, List, [], ◌∷◌, take, drop, codes, Option, None, Some, option_map, Result, Ok, Err, if◌then◌else◌}
 use Rattle.std.specs.List.{list_all, list_any}
 use Rattle.std.specs.Char.{is_ascii, is_ascii_digit, to_ascii_lowercase}
 use Rattle.std.specs.Str.Parse.{digits_value}
@@ -46,12 +46,13 @@ begins [] text = true
 begins (c ∷ letters) [] = false
 begins (c ∷ letters) (b ∷ bs) = nat_eq (to_ascii_lowercase b) c && begins letters bs
 
-abbrev pub refused : ℕ → OriginRefusal → Result Origin (At OriginRefusal)
-refused place reason = Err (record { place = place; reason = reason })
+abbrev pub refusal_at : ℕ → OriginRefusal → Result Origin (At OriginRefusal)
+refusal_at place reason = Err (record { place = place; reason = reason })
 
+-- the origin, where nothing is left
 abbrev pub at_end : Origin → ℕ → List ℕ → Result Origin (At OriginRefusal)
 at_end origin place [] = Ok origin
-at_end origin place (b ∷ bs) = refused place Trailing
+at_end origin place (b ∷ bs) = refusal_at place Trailing
 
 -- the port that digits write
 abbrev pub port_of : List ℕ → Option ℕ
@@ -60,7 +61,7 @@ port_of digits =
 
 -- the end, or what follows the port that was read
 abbrev pub port_then_end : Scheme → Host → ℕ → ℕ → List ℕ → Option ℕ → Result Origin (At OriginRefusal)
-port_then_end scheme host place count bs None = refused place BadPort
+port_then_end scheme host place count bs None = refusal_at place BadPort
 port_then_end scheme host place count bs (Some port) = at_end (record { scheme = scheme; host = host; port = port }) (place + count) (drop count bs)
 
 -- what follows a colon, where this many digits stand at its front
@@ -77,21 +78,23 @@ digits_before text = count_before (λ b. not (is_ascii_digit b)) text
 abbrev pub read_port : Scheme → Host → ℕ → List ℕ → Result Origin (At OriginRefusal)
 read_port scheme host place [] = Ok (record { scheme = scheme; host = host; port = default_port_of scheme })
 read_port scheme host place (b ∷ bs) =
-    if nat_eq b 58 then read_digits scheme host (place + 1) (digits_before bs) bs else refused place Trailing
+    if nat_eq b 58 then read_digits scheme host (place + 1) (digits_before bs) bs else refusal_at place Trailing
 
+-- the host that was read in this many bytes, and what follows it
 abbrev pub host_then_port : Scheme → ℕ → List ℕ → ℕ → Option Host → Result Origin (At OriginRefusal)
-host_then_port scheme place rest end None = refused place BadHost
+host_then_port scheme place rest end None = refusal_at place BadHost
 host_then_port scheme place rest end (Some host) = read_port scheme host (place + end) (drop end rest)
 
+-- a host of this many bytes
 abbrev pub read_run_of : Scheme → ℕ → List ℕ → Option ℕ → Result Origin (At OriginRefusal)
-read_run_of scheme place rest None = refused place BadHost
+read_run_of scheme place rest None = refusal_at place BadHost
 read_run_of scheme place rest (Some end) = host_then_port scheme place rest end (read_run (take end rest))
 
 -- what follows the scheme
 abbrev pub read_rest : Scheme → ℕ → List ℕ → Result Origin (At OriginRefusal)
 read_rest scheme place rest = read_run_of scheme place rest (host_end rest)
 
-abbrev pub read_origin : List ℕ → Result Origin (At OriginRefusal)
+unfoldable pub read_origin : List ℕ → Result Origin (At OriginRefusal)
 read_origin text =
     if begins (codes "http://") text then read_rest Http 7 (drop 7 text)
-    else (if begins (codes "https://") text then read_rest Https 8 (drop 8 text) else refused 0 BadScheme)
+    else (if begins (codes "https://") text then read_rest Https 8 (drop 8 text) else refusal_at 0 BadScheme)

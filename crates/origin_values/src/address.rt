@@ -26,6 +26,7 @@ impl Duplicate for Addr {
 impl Addr {
     /// The address that a text spells: of IPv4 four decimal numbers joined by dots (RFC 3986 3.2.2), of IPv6 its
     /// groups (RFC 4291 2.2). None exactly where the text spells none. It takes no memory.
+    #[tactic(auto, unfolding(crate::specs::HostReading::read_addr))]
     pub fn parse(text: &[u8]) -> Option<Addr>
         ensures reading { result ≡ read_addr text.now }
         ensures some { IfSome result (λ addr. SpellsAddr text.now addr) }

@@ -66,6 +66,7 @@ impl Host {
 }
 
 // The host that a text spells, if it spells one.
+#[tactic(auto, unfolding(crate::specs::HostReading::read_host))]
 pub(crate) fn read_host(alloc: Global, text: &[u8]) -> Result<Option<Host>, NoMemory>
     ensures { IfOk result (λ host. host ≡ read_host text.now) }
 {

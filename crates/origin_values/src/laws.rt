@@ -1,4 +1,4 @@
-ghost use Rattle.std.specs.Prelude.{◌≡◌, ℕ, List, true, ◌↔◌};
+ghost use Rattle.std.specs.Prelude.{◌≡◌, ◌≤◌, ℕ, List, true, ◌↔◌};
 ghost use Rattle.origin_values.specs.Equality.{scheme_eq, proto_eq, addr_eq, host_eq, origin_eq};
 ghost use Rattle.origin_values.specs.HostGrammar.{SpellsAddr, SpellsHost, HostRefusedAt, OneHost};
 ghost use Rattle.origin_values.specs.HostReading.{read_addr, read_host, host_or_refusal};
@@ -6,7 +6,10 @@ ghost use Rattle.origin_values.specs.AsciiOrigin.{SpellsAscii};
 ghost use Rattle.origin_values.specs.OriginGrammar.{SpellsOrigin, OriginRefusedAt, OneOrigin};
 ghost use Rattle.origin_values.specs.OriginReading.{read_origin};
 ghost use Rattle.origin_values.specs.Valid.{IsAddr, IsHost, IsOrigin};
-ghost use Rattle.origin_values.specs.Written.{addr_text, host_text, origin_text};
+ghost use Rattle.origin_values.specs.Written.{addr_text, host_text, origin_text, v6_text};
+ghost use Rattle.origin_values.specs.ZeroRuns.{AreZeros};
+ghost use Rattle.std.specs.Net.Addr.{segments_of};
+ghost use Rattle.std.specs.Net.Text.{compressed_text, longest_zero_run};
 ghost use Rattle.origin_values.specs.declared.scheme.Scheme.{Scheme};
 ghost use Rattle.origin_values.specs.declared.proto.Proto.{Proto};
 ghost use Rattle.origin_values.specs.declared.address.Addr.{Addr};
@@ -37,6 +40,15 @@ pub fn addresses_are_read()
 pub fn written_addresses_are_read_back()
     ensures spelled { (addr : Addr) → IsAddr addr → SpellsAddr (addr_text addr) addr }
     ensures back { (addr : Addr) → IsAddr addr → read_addr (addr_text addr) ≡ Some addr }
+{}
+
+/// `::` stands for the longest run of zero groups, of equally long ones the first, where it has two groups or more
+/// (RFC 5952 4.2).
+pub fn longest_run_of_zeros_is_shortened()
+    ensures text { (bytes : List ℕ) → v6_text bytes ≡ compressed_text (segments_of bytes) (longest_zero_run (segments_of bytes)) }
+    ensures longest { (groups : List ℕ) (start count : ℕ) → AreZeros groups start count → count ≤ (longest_zero_run groups).1 }
+    ensures first { (groups : List ℕ) (start count : ℕ) → AreZeros groups start count →
+        count ≡ (longest_zero_run groups).1 → (longest_zero_run groups).0 ≤ start }
 {}
 
 /// What is read as a host is spelled so, what is spelled is read, what is refused is refused so, and a host that is
@@ -81,7 +93,8 @@ pub fn written_origins_are_read_back()
     ensures back { (origin : Origin) → IsOrigin origin → read_origin (origin_text origin) ≡ Ok origin }
 {}
 
-/// No text is the ASCII text of two origins.
+/// No text is the ASCII text of two origins, and an origin's ASCII text spells it.
 pub fn one_ascii_origin()
-    ensures { (text : List ℕ) (a b : Origin) → SpellsAscii text a → SpellsAscii text b → a ≡ b }
+    ensures one { (text : List ℕ) (a b : Origin) → SpellsAscii text a → SpellsAscii text b → a ≡ b }
+    ensures spelled { (text : List ℕ) (origin : Origin) → SpellsAscii text origin → SpellsOrigin text origin }
 {}

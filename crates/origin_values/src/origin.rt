@@ -38,7 +38,8 @@ impl Duplicate for Origin {
 impl Origin {
     /// The origin that a text spells: `http://` or `https://` in any case of letters, a host, and maybe a colon and
     /// digits (RFC 6454 4, RFC 3986 3.2). Without digits the port is the scheme's default; leading zeros don't matter.
-    /// A host with a byte above 7F is mapped by ToASCII of UTS 46 first, and what it gives may hold no `_`.
+    /// A host with a byte above 7F is mapped first, by ToASCII of UTS 46 with the deny list of URLs, and what that gives
+    /// may hold no `_`; a host of ASCII bytes isn't mapped.
     ///
     /// Refused, in this order: `BadScheme` at 0, `BadHost` at the first byte after `://`, `BadPort` at the first byte
     /// after the colon where the digits' value is 0 or above 65535, and `Trailing` at the first byte left.
@@ -88,6 +89,7 @@ impl Origin {
 }
 
 // The origin that a text spells.
+#[tactic(auto, unfolding(crate::specs::OriginReading::read_origin))]
 fn read_origin(alloc: Global, text: &[u8]) -> Result<Origin, Refused<OriginRefusal>>
     requires { length text.now < 2 ^ 32 }
     ensures { Gives result (read_origin text.now) }

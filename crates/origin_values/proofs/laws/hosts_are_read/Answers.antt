@@ -1,5 +1,3 @@
-use Rattle.std.proofs.Common.{ap}
-use Rattle.origin_values.specs.HostReading.{host_or_refusal}
 use Rattle.origin_values.proofs.Hosts.{host_reads, host_read_complete, host_refused}
 use Rattle.origin_values.proofs.HostTexts.{host_valid}
 use Rattle.origin_values.proofs.laws.hosts_are_read.Goals as goal

@@ -1,4 +1,4 @@
-use Rattle.std.proofs.Common.{◌≡◌, sym, ◌∙◌, List, ℕ}
+use Rattle.std.proofs.Common.{◌≡◌, sym, ◌∙◌}
 use Rattle.origin_values.specs.Written.{origin_text}
 use Rattle.origin_values.proofs.AsciiTexts.{not_all_ascii, not_read, not_written, ascii_ok, gives_ok, gives_at, written_is, written_other}
 use Rattle.origin_values.proofs.origin.Origin.parse_ascii.Goals as goal
