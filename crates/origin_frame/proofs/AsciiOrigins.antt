@@ -6,7 +6,6 @@ use Rattle.origin_values.specs.AsciiOrigin.{SpellsAscii}
 use Rattle.origin_values.specs.OriginReading.{read_origin}
 use Rattle.origin_values.specs.Written.{origin_text}
 use Rattle.origin_values.specs.declared.origin.Origin.{Origin}
-use Rattle.origin_values.specs.declared.refusal.AsciiFault.{AsciiFault}
 use Rattle.origin_values.specs.declared.refusal.OriginRefusal.{OriginRefusal}
 use Rattle.origin_values.proofs.Origins.{origin_sound}
 use Rattle.origin_values.proofs.OriginTexts.{origin_valid, origin_read_back}

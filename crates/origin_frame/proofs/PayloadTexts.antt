@@ -1,11 +1,10 @@
 -- The payload that lists origins is read back.
-use Rattle.std.proofs.Common.{◌≡◌, ℕ, ◌+◌, ◌*◌, ◌/◌, ◌%◌, List, [], ◌∷◌, ◌++◌, length, map, Ok, refl, arith, inl}
+use Rattle.std.proofs.Common.{◌≡◌, ℕ, ◌+◌, ◌*◌, ◌/◌, ◌%◌, List, [], ◌∷◌, length, map, Ok, refl, arith, inl}
 use Rattle.origin_values.specs.Written.{origin_text}
 use Rattle.origin_values.specs.declared.origin.Origin.{Origin}
-use Rattle.origin_frame.specs.declared.listed.Listed.{Listed}
-use Rattle.origin_frame.specs.PayloadGrammar.{BeginsWithEntry, AreEntries, AreListed, SpellsListed}
+use Rattle.origin_frame.specs.PayloadGrammar.{AreEntries, AreListed, SpellsListed}
 use Rattle.origin_frame.specs.PayloadReading.{read_listed}
-use Rattle.origin_frame.specs.PayloadWritten.{entry_octets, payload_of, AreOrigins}
+use Rattle.origin_frame.specs.PayloadWritten.{payload_of, AreOrigins}
 use Rattle.origin_frame.proofs.Payloads.{listed_read}
 
 two_octets : (n : ℕ) → n ≡ n / 256 * 256 + n % 256

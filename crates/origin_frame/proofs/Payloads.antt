@@ -1,18 +1,17 @@
 -- The reading of payloads against their grammar.
-use Rattle.std.proofs.Common.{◌≡◌, ◌≢◌, ◌⊎◌, ℕ, zero, suc, ◌+◌, ◌*◌, ◌%◌, ◌<◌, ◌≤◌, Bool, true, false, cond, nat_eq, nat_lt, List, [], ◌∷◌, ◌++◌, length, take, drop, Option, None, Some, Result, Ok, Err, IfOk, refl, ap, ap₂, sym, ◌∙◌, subst, arith, inl, inr}
+use Rattle.std.proofs.Common.{◌≡◌, ◌≢◌, ◌⊎◌, ℕ, zero, suc, ◌+◌, ◌*◌, bit_and, ◌<◌, ◌≤◌, Bool, true, false, cond, nat_eq, nat_lt, List, [], ◌∷◌, ◌++◌, length, take, drop, Option, None, Some, Result, Ok, Err, IfOk, refl, ap, ap₂, sym, ◌∙◌, subst, arith, inl, inr}
 use Rattle.std.proofs.lemmas.List.{append_assoc, length-append, length-take-le, length-drop, take-append-drop, take_at, drop_at}
 use Rattle.std.proofs.lemmas.Bool.Decides.{nat_tests}
 use Rattle.alt_base.specs.declared.refusal.At.{At}
 use Rattle.alt_base.specs.declared.refusal.Refused.{Refused}
 use Rattle.alt_base.specs.declared.refusal.Refused.TheVariants as Refusal
-use Rattle.origin_values.specs.AsciiOrigin.{SpellsAscii}
 use Rattle.origin_values.specs.Gives.{Gives, IfRefused}
 use Rattle.origin_values.specs.declared.origin.Origin.{Origin}
 use Rattle.origin_frame.specs.declared.listed.Listed.{Listed}
 use Rattle.origin_frame.specs.declared.refusal.OriginFrameRefusal.{OriginFrameRefusal}
 use Rattle.origin_frame.specs.declared.refusal.OriginFrameRefusal.TheVariants.{NotStreamZero, Flags, EntryPast}
-use Rattle.origin_frame.specs.PayloadGrammar.{BeginsWithEntry, AreEntries, IsNoOrigin, AreListed, NoFlags, SpellsListed, IsPast, IsEntryPast, ListedRefusedAt, OneListed}
-use Rattle.origin_frame.specs.PayloadReading.{ascii_origin, Answer, refused, with_entry, entry_onto, read_entry, read_within, read_entries, read_listed}
+use Rattle.origin_frame.specs.PayloadGrammar.{BeginsWithEntry, AreEntries, AreListed, NoFlags, SpellsListed, IsPast, ListedRefusedAt, OneListed}
+use Rattle.origin_frame.specs.PayloadReading.{ascii_origin, Answer, refused, entry_onto, read_entry, read_within, read_entries, read_listed}
 use Rattle.origin_frame.specs.PayloadWritten.{AreOrigins}
 use Rattle.origin_frame.proofs.AsciiOrigins.{ascii_spelled, ascii_read, ascii_none, none_ascii}
 
@@ -183,9 +182,9 @@ entries_say stream flags payload (Err at) on_zero no_flags s =
     (on_zero, no_flags, record { entries = s.entries; front = s.front; rest = s.rest; spelled = s.spelled; whole = s.whole; past = s.past; at = s.is ∙ omega arith })
 
 pub listed_says : (stream flags : ℕ) (payload : List ℕ) → ListedSays stream flags payload (read_listed stream flags payload)
-listed_says stream flags payload = go (nat_eq stream 0) (nat_eq (flags % 16) 0) refl refl
+listed_says stream flags payload = go (nat_eq stream 0) (nat_eq (bit_and flags 15) 0) refl refl
   where
-    go : (s t : Bool) → nat_eq stream 0 ≡ s → nat_eq (flags % 16) 0 ≡ t
+    go : (s t : Bool) → nat_eq stream 0 ≡ s → nat_eq (bit_and flags 15) 0 ≡ t
         → ListedSays stream flags payload (cond s (cond t (read_entries payload) (refused 0 Flags)) (refused 0 NotStreamZero))
     go true true on none = entries_say stream flags payload (read_entries payload) (zero_from_test _ on) (zero_from_test _ none) (within_says (length payload) 0 payload (omega arith))
     go true false on none = (zero_from_test _ on, other_from_test _ none, refl)
@@ -193,7 +192,7 @@ listed_says stream flags payload = go (nat_eq stream 0) (nat_eq (flags % 16) 0) 
 
 both_tests : (stream flags : ℕ) (payload : List ℕ) → stream ≡ 0 → NoFlags flags → read_listed stream flags payload ≡ read_entries payload
 both_tests stream flags payload on none =
-    ap₂ (λ s t. cond s (cond t (read_entries payload) (refused 0 Flags)) (refused 0 NotStreamZero)) (test_from_zero stream on) (test_from_zero (flags % 16) none)
+    ap₂ (λ s t. cond s (cond t (read_entries payload) (refused 0 Flags)) (refused 0 NotStreamZero)) (test_from_zero stream on) (test_from_zero (bit_and flags 15) none)
 
 pub listed_read : (stream flags : ℕ) (payload : List ℕ) (listed : Listed) → SpellsListed stream flags payload listed → read_listed stream flags payload ≡ Ok listed
 listed_read stream flags payload listed h =
@@ -202,10 +201,10 @@ listed_read stream flags payload listed h =
 
 pub listed_refused : (stream flags : ℕ) (payload : List ℕ) (place : ℕ) (reason : OriginFrameRefusal) → ListedRefusedAt stream flags payload place reason → read_listed stream flags payload ≡ refused place reason
 listed_refused stream flags payload place NotStreamZero h =
-    ap (λ s. cond s (cond (nat_eq (flags % 16) 0) (read_entries payload) (refused 0 Flags)) (refused 0 NotStreamZero)) (test_from_other stream h.0)
+    ap (λ s. cond s (cond (nat_eq (bit_and flags 15) 0) (read_entries payload) (refused 0 Flags)) (refused 0 NotStreamZero)) (test_from_other stream h.0)
     ∙ ap (λ p. refused p NotStreamZero) (sym h.1)
 listed_refused stream flags payload place Flags h =
-    ap₂ (λ s t. cond s (cond t (read_entries payload) (refused 0 Flags)) (refused 0 NotStreamZero)) (test_from_zero stream h.0) (test_from_other (flags % 16) h.1)
+    ap₂ (λ s t. cond s (cond t (read_entries payload) (refused 0 Flags)) (refused 0 NotStreamZero)) (test_from_zero stream h.0) (test_from_other (bit_and flags 15) h.1)
     ∙ ap (λ p. refused p Flags) (sym h.2)
 listed_refused stream flags payload place EntryPast h =
     let s = h.2 in

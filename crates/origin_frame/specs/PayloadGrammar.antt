@@ -1,5 +1,5 @@
 -- The payload of an ORIGIN frame (RFC 8336 2.1), beside what it lists, by how it splits; and the table of refusals.
-use Rattle.std.specs.Prelude.{◌≡◌, ◌≢◌, ◌⊎◌, ℕ, ◌+◌, ◌*◌, ◌%◌, ◌<◌, List, [], ◌∷◌, ◌++◌, length}
+use Rattle.std.specs.Prelude.{◌≡◌, ◌≢◌, ◌⊎◌, ℕ, ◌+◌, ◌*◌, ◌<◌, List, [], ◌∷◌, ◌++◌, length, bit_and}
 use Rattle.origin_values.specs.AsciiOrigin.{SpellsAscii}
 use Rattle.origin_values.specs.declared.origin.Origin.{Origin}
 use Rattle.origin_frame.specs.declared.listed.Listed.{Listed}
@@ -30,9 +30,9 @@ AreListed (entry ∷ entries) origins skipped =
     ((origin : Origin) × (more : List Origin) × (origins ≡ origin ∷ more) × SpellsAscii entry origin × AreListed entries more skipped)
     ⊎ ((count : ℕ) × (skipped ≡ count + 1) × IsNoOrigin entry × AreListed entries origins count)
 
--- the flags 1, 2, 4 and 8 are the four lowest bits
+-- none of the flags 1, 2, 4 and 8 is set, which make 15 together
 abbrev pub NoFlags : ℕ → Type 0
-NoFlags flags = flags % 16 ≡ 0
+NoFlags flags = bit_and flags 15 ≡ 0
 
 -- a frame on stream 0 without these flags lists what its entries give
 pub record SpellsListed (stream flags : ℕ) (payload : List ℕ) (listed : Listed) : Type 0 where

@@ -1,5 +1,5 @@
 -- Reading the payload of an ORIGIN frame.
-use Rattle.std.specs.Prelude.{ℕ, zero, suc, ◌+◌, ◌*◌, ◌%◌, nat_eq, nat_lt, List, [], ◌∷◌, length, take, drop, Option, None, Some, Result, Ok, Err, if◌then◌else◌}
+use Rattle.std.specs.Prelude.{ℕ, zero, suc, ◌+◌, ◌*◌, bit_and, nat_eq, nat_lt, List, [], ◌∷◌, length, take, drop, Option, None, Some, Result, Ok, Err, if◌then◌else◌}
 use Rattle.std.specs.Cmp.Lexicographic.{pointwise}
 use Rattle.alt_base.specs.declared.refusal.At.{At}
 use Rattle.origin_values.specs.OriginReading.{read_origin}
@@ -56,5 +56,5 @@ read_entries payload = read_within (length payload) 0 payload
 
 abbrev pub read_listed : ℕ → ℕ → List ℕ → Answer
 read_listed stream flags payload =
-    if nat_eq stream 0 then (if nat_eq (flags % 16) 0 then read_entries payload else refused 0 Flags)
+    if nat_eq stream 0 then (if nat_eq (bit_and flags 15) 0 then read_entries payload else refused 0 Flags)
     else refused 0 NotStreamZero

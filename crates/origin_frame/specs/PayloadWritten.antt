@@ -1,5 +1,5 @@
 -- The payload that lists origins, and what the writer answers.
-use Rattle.std.specs.Prelude.{◌≡◌, ℕ, ◌/◌, ◌%◌, ◌-◌, ◌^◌, ◌<◌, ◌≤◌, min, List, [], ◌∷◌, ◌++◌, length, Result, Ok, Err}
+use Rattle.std.specs.Prelude.{ℕ, ◌/◌, ◌%◌, ◌-◌, ◌^◌, min, List, [], ◌∷◌, ◌++◌, length, Result, Ok, Err}
 use Rattle.origin_values.specs.Valid.{IsOrigin}
 use Rattle.origin_values.specs.Written.{origin_text}
 use Rattle.origin_values.specs.declared.origin.Origin.{Origin}

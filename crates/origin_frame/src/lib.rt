@@ -6,6 +6,8 @@ mod listed;
 mod over_fault;
 mod reading;
 mod refusal;
+#[cfg(test)]
+mod tests;
 mod written;
 
 pub use laws::{one_listed, payloads_are_read, written_origins_are_listed};

@@ -11,8 +11,8 @@ use alt_base::{NoMemory, Refused};
 use origin_values::{AsciiFault, Origin};
 use std::alloc::Global;
 
-/// The lowest four bits, which are the flags 1, 2, 4 and 8.
-const FLAG_VALUES: u8 = 16;
+/// The flags with which a frame is ignored (RFC 8336 2.2): 1, 2, 4 and 8.
+const IGNORED_FLAGS: u8 = 0x0F;
 
 /// What an ORIGIN frame on this stream, with these flags and this payload lists (RFC 8336 2.1): the origins of the
 /// entries that are an origin's ASCII text (RFC 6454 6.2), and the number of the others, which are skipped.
@@ -49,7 +49,7 @@ fn read_listed(
             reason: OriginFrameRefusal::NotStreamZero,
         });
     }
-    if flags % FLAG_VALUES != 0 {
+    if flags & IGNORED_FLAGS != 0 {
         return Err(Refused::At {
             place: 0,
             reason: OriginFrameRefusal::Flags,

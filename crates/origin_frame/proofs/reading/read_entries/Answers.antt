@@ -1,6 +1,6 @@
 use Rattle.std.proofs.Common.{sym, ap, ◌∙◌}
 use Rattle.origin_frame.specs.Entries.{entry_of}
-use Rattle.origin_frame.proofs.Steps.{one_more, past_end, at_end, rest_whole}
+use Rattle.origin_frame.proofs.Steps.{one_more, past_end, rest_whole}
 use Rattle.origin_frame.proofs.reading.read_entries.Goals as goal
 
 pub returns-in-None : goal.returns-in-None
