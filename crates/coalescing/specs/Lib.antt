@@ -1,1 +1,5 @@
 pub mod Covers
+pub mod Coverage
+pub mod NamesGrammar
+pub mod NamesReading
+pub mod NamesWritten

@@ -1,0 +1,4 @@
+pub mod AsciiOrigins
+pub mod Payloads
+pub mod PayloadTexts
+pub mod Steps

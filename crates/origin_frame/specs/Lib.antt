@@ -1,0 +1,4 @@
+pub mod PayloadGrammar
+pub mod PayloadReading
+pub mod PayloadWritten
+pub mod Entries

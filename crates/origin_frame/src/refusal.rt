@@ -1,0 +1,10 @@
+/// Why an ORIGIN frame is ignored (RFC 8336 2.1 and 2.2), in the order in which the reasons are tried.
+#[derive(Clone, Copy, Debug, PartialEq, Eq)]
+pub enum OriginFrameRefusal {
+    /// The frame's stream isn't 0: at place 0.
+    NotStreamZero,
+    /// One of the flags 1, 2, 4 and 8 is set: at place 0.
+    Flags,
+    /// An entry passes the end of the payload: at the entry's first octet.
+    EntryPast,
+}
