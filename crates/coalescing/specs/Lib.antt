@@ -1,1 +1,4 @@
 pub mod Covers
+pub mod Coverage
+pub mod NamesGrammar
+pub mod NamesReading
