@@ -25,10 +25,8 @@ eight_have_colon (s ∷ segments) text eight (inl h) =
     let rest = behind_colon segments h.1 (omega arith) h.4 in
     (h.0 ++ rest.0, rest.1, h.2 ∙ ap (λ xs. h.0 ++ xs) rest.2 ∙ sym (append_assoc h.0 rest.0 (58 ∷ rest.1)))
 eight_have_colon (s ∷ segments) text eight (inr h) =
-    absurd (two_not_eight (sym eight ∙ ap length (h.5 ∙ ap segments_of h.4.value)))
-  where
-    two_not_eight : 8 ≡ 2 → ⊥
-    two_not_eight e = omega arith
+    let two : length (s ∷ segments) ≡ length (segments_of (h.4.a ∷ h.4.b ∷ h.4.c ∷ h.4.d ∷ [])) = ap length (h.5 ∙ ap segments_of h.4.value) in
+    absurd (omega arith)
 
 hex_has_colon : (text segments : List ℕ) → IsColonHex text segments → HasColon text
 hex_has_colon text segments (inl h) = eight_have_colon segments text h.1 h.0

@@ -17,6 +17,14 @@ pub fn parse_names(alloc: Global, text: &[u8]) -> Result<CertNames, Refused<Cert
     ensures ok { IfOk result (λ names. SpellsNames text.now names) }
     ensures refused { IfRefused result (λ place reason. NamesRefusedAt text.now place reason) }
 {
+    read_names(alloc, text)
+}
+
+// No names, or those of the items.
+fn read_names(alloc: Global, text: &[u8]) -> Result<CertNames, Refused<CertRefusal>>
+    requires { length text.now < 2 ^ 32 }
+    ensures { Gives result (read_names text.now) }
+{
     match text {
         [b'-'] => Ok(CertNames::new(alloc)),
         _ => read_items(alloc, text),

@@ -1,0 +1,8 @@
+use Rattle.std.proofs.Common.{◌≡◌, ◌+◌, length, drop}
+use Rattle.coalescing.specs.NamesGrammar.{with_commas}
+use Rattle.coalescing.specs.NamesReading.{read_items, items_of}
+use Rattle.coalescing.proofs.Reading.{IsSoFar}
+use Rattle.coalescing.proofs.names.read_items.Given as goal
+
+abbrev pub invariant-loop-item : goal.invariant-loop-item
+invariant-loop-item l = IsSoFar l.text l.names l.place (length l.yielded)
