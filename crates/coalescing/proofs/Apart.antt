@@ -1,5 +1,5 @@
 -- Texts without a byte, and the parts around its first place.
-use Rattle.std.proofs.Common.{◌≡◌, ℕ, Bool, true, false, nat_eq, List, [], ◌∷◌, ◌++◌, refl, ap, sym, ◌∙◌, subst, arith}
+use Rattle.std.proofs.Common.{◌≡◌, ℕ, Bool, true, false, nat_eq, List, [], ◌∷◌, ◌++◌, refl, ap, sym, ◌∙◌, arith}
 
 -- the byte stands nowhere in the text
 abbrev pub Without : ℕ → List ℕ → Type 0

@@ -1,6 +1,6 @@
 -- The items between the commas of a text.
-use Rattle.std.proofs.Common.{◌≡◌, ℕ, suc, ◌+◌, Bool, true, false, cond, nat_eq, List, [], ◌∷◌, ◌++◌, length, append_assoc, append-nil, length-append, refl, ap, sym, ◌∙◌, subst, arith}
-use Rattle.std.specs.List.{slice_split, onto_first, join_with_byte}
+use Rattle.std.proofs.Common.{◌≡◌, ℕ, ◌+◌, Bool, true, false, cond, nat_eq, List, [], ◌∷◌, ◌++◌, length, append_assoc, append-nil, length-append, refl, ap, sym, ◌∙◌}
+use Rattle.std.specs.List.{onto_first, join_with_byte}
 use Rattle.coalescing.specs.declared.cert_name.CertName.{CertName}
 use Rattle.coalescing.specs.NamesGrammar.{SpellEach, with_commas, EndsItem}
 use Rattle.coalescing.specs.NamesReading.{items_of}

@@ -1,7 +1,7 @@
 -- The reading of one item against the grammar.
-use Rattle.std.proofs.Common.{◌≡◌, ℕ, Bool, true, false, cond, not, ◌&&◌, ◌||◌, nat_eq, List, [], ◌∷◌, ◌++◌, Option, None, Some, option_map, refl, ap, sym, ◌∙◌, subst}
+use Rattle.std.proofs.Common.{◌≡◌, ℕ, Bool, true, false, cond, not, ◌&&◌, ◌||◌, nat_eq, List, [], ◌∷◌, Option, None, Some, option_map, refl, ap, sym, ◌∙◌, subst}
 use Rattle.std.specs.List.{list_all}
-use Rattle.origin_values.specs.HostGrammar.{SpellsName, SpellsAddr}
+use Rattle.origin_values.specs.HostGrammar.{SpellsName}
 use Rattle.origin_values.specs.HostReading.{read_addr, read_host, first_of_two}
 use Rattle.origin_values.specs.declared.address.Addr.{Addr}
 use Rattle.origin_values.specs.declared.host.Host.{Host}
@@ -10,7 +10,7 @@ use Rattle.origin_values.proofs.Addresses.{read_addr_complete, read_addr_sound}
 use Rattle.origin_values.proofs.Hosts.{read_host_complete, read_host_sound}
 use Rattle.coalescing.specs.declared.cert_name.CertName.{CertName}
 use Rattle.coalescing.specs.declared.cert_name.CertName.TheVariants.{Exact, Wild, Ip}
-use Rattle.coalescing.specs.NamesGrammar.{SpellsItem, SpellsWild}
+use Rattle.coalescing.specs.NamesGrammar.{SpellsItem}
 use Rattle.coalescing.specs.NamesReading.{name_of, host_name, behind_wildcard, read_plain, wild_or_plain, read_item}
 use Rattle.coalescing.proofs.Apart.{Without, same_from_test, false_true, without_cons}
 use Rattle.coalescing.proofs.ItemBytes.{is_plain, IsPlain, plain_apart, name_plain, addr_plain}

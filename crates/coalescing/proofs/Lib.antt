@@ -6,3 +6,4 @@ pub mod Items
 pub mod Commas
 pub mod NamesLemmas
 pub mod Reading
+pub mod NamesTexts

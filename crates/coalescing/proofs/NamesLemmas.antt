@@ -1,17 +1,18 @@
 -- The reading of names against their grammar.
-use Rattle.std.proofs.Common.{◌≡◌, ◌≢◌, ◌⊎◌, ℕ, suc, ◌+◌, ◌≤◌, Bool, true, false, cond, nat_eq, List, [], ◌∷◌, ◌++◌, length, Option, None, Some, Result, Ok, Err, IfOk, append_assoc, length-append, refl, ap, sym, ◌∙◌, subst, arith, inl, inr}
+use Rattle.std.proofs.Common.{◌≡◌, ◌≢◌, ◌⊎◌, ℕ, ◌+◌, Bool, true, false, cond, nat_eq, List, [], ◌∷◌, ◌++◌, length, Option, None, Some, Result, Ok, Err, IfOk, length-append, refl, ap, sym, ◌∙◌, subst, arith, inl, inr}
 use Rattle.std.specs.Cmp.Lexicographic.{pointwise, same_text}
-use Rattle.std.specs.List.{slice_split, join_with_byte}
+use Rattle.std.specs.List.{join_with_byte}
 use Rattle.std.proofs.lemmas.List.Splits.{join_with_byte-slice_split, length-slice_split}
 use Rattle.alt_base.specs.declared.refusal.At.{At}
 use Rattle.alt_base.specs.declared.refusal.Refused.{Refused}
 use Rattle.alt_base.specs.declared.refusal.Refused.TheVariants as refused
 use Rattle.origin_values.specs.Gives.{Gives, IfRefused}
+use Rattle.origin_values.specs.HostGrammar.{SpellsName}
 use Rattle.coalescing.specs.declared.cert_name.CertName.{CertName}
 use Rattle.coalescing.specs.declared.cert_name.CertName.TheVariants.{Exact}
 use Rattle.coalescing.specs.declared.refusal.CertRefusal.{CertRefusal}
 use Rattle.coalescing.specs.declared.refusal.CertRefusal.TheVariants.{BadName}
-use Rattle.coalescing.specs.NamesGrammar.{SpellsItem, SpellEach, SpellsItems, SpellsNames, with_commas, IsBadName, NamesRefusedAt, OneNames}
+use Rattle.coalescing.specs.NamesGrammar.{SpellsItem, SpellEach, SpellsNames, with_commas, IsBadName, NamesRefusedAt, OneNames}
 use Rattle.coalescing.specs.NamesReading.{read_item, Answer, name_onto, read_items, items_of, read_names}
 use Rattle.coalescing.proofs.Items.{item_read, item_spelled, item_none, item_bad}
 use Rattle.coalescing.proofs.Commas.{AllApart, items_apart, apart_at, item_in_front, items_behind, items_joined, behind_item, behind_ends, joined_at}
@@ -183,16 +184,18 @@ bad_items text place s =
     ∙ ap bad_at (omega (arith, s.at))
 
 -- `-` is a host's name among other items
+pub hyphen_spelled : SpellsName (45 ∷ []) (45 ∷ [])
+hyphen_spelled = record {
+  labels = (45 ∷ []) ∷ [];
+  are_labels = (record { some = omega arith; short = omega arith; allowed = refl }, refl);
+  spelled = refl;
+  short = omega arith;
+  value = refl;
+}
+
 hyphen_read : read_items 0 (items_of (45 ∷ [])) ≡ Ok (Exact (45 ∷ []) ∷ [])
 hyphen_read =
-    each_read ((45 ∷ []) ∷ []) (Exact (45 ∷ []) ∷ []) 0
-    (record {
-      labels = (45 ∷ []) ∷ [];
-      are_labels = (record { some = omega arith; short = omega arith; allowed = refl }, refl);
-      spelled = refl;
-      short = omega arith;
-      value = refl;
-    }, tt)
+    each_read ((45 ∷ []) ∷ []) (Exact (45 ∷ []) ∷ []) 0 (hyphen_spelled, tt)
 
 bad_is_other : (text : List ℕ) (place : ℕ) → IsBadName text place → text ≢ 45 ∷ []
 bad_is_other text place s same = clash (sym hyphen_read ∙ ap (λ xs. read_items 0 (items_of xs)) (sym same) ∙ bad_items text place s)

@@ -1,5 +1,5 @@
 -- Which hosts the names of a certificate cover (RFC 9525 6.3; RFC 9110 4.3.4 and 4.3.5).
-use Rattle.std.specs.Prelude.{ℕ, List, [], ◌∷◌, Bool, true, false, not, ◌&&◌, nat_eq, if◌then◌else◌}
+use Rattle.std.specs.Prelude.{ℕ, List, [], ◌∷◌, Bool, false, not, ◌&&◌, nat_eq, if◌then◌else◌}
 use Rattle.std.specs.Cmp.Lexicographic.{pointwise}
 use Rattle.std.specs.List.{list_any}
 use Rattle.origin_values.specs.declared.address.Addr.TheVariants.{V4 as IpV4, V6 as IpV6}

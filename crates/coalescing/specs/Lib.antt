@@ -2,3 +2,4 @@ pub mod Covers
 pub mod Coverage
 pub mod NamesGrammar
 pub mod NamesReading
+pub mod NamesWritten

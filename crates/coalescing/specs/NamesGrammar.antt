@@ -1,5 +1,5 @@
 -- The texts of a certificate's names, each beside what it stands for, by how the text splits; and the table of refusals.
-use Rattle.std.specs.Prelude.{◌≡◌, ◌≢◌, ◌⊎◌, ℕ, ◌+◌, List, [], ◌∷◌, ◌++◌, length, codes}
+use Rattle.std.specs.Prelude.{◌≡◌, ◌≢◌, ◌⊎◌, ℕ, List, [], ◌∷◌, ◌++◌, length, codes}
 use Rattle.std.specs.List.{join_with_byte}
 use Rattle.origin_values.specs.HostGrammar.{SpellsName, SpellsAddr}
 use Rattle.coalescing.specs.declared.cert_name.CertName.{CertName}

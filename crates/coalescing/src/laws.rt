@@ -7,6 +7,7 @@ ghost use Rattle.coalescing.specs.Covers.{covers, covers_host};
 ghost use Rattle.coalescing.specs.Coverage.{CoversHost, CoverHost};
 ghost use Rattle.coalescing.specs.NamesGrammar.{SpellsNames, NamesRefusedAt, OneNames};
 ghost use Rattle.coalescing.specs.NamesReading.{read_names};
+ghost use Rattle.coalescing.specs.NamesWritten.{names_text, HaveText};
 
 /// A test of covering holds exactly where RFC 9525 6.3 lets the names be used for the host.
 pub fn covering_is_exact()
@@ -26,4 +27,11 @@ pub fn names_are_read()
 /// Each text spells exactly one list of names or is refused at exactly one place, and never both.
 pub fn one_names()
     ensures { (text : List ℕ) → OneNames text }
+{}
+
+/// The text that names are written as spells them and is read back as them; and names that are spelled have one.
+pub fn written_names_are_read_back()
+    ensures spelled { (names : List CertName) → HaveText names → SpellsNames (names_text names) names }
+    ensures back { (names : List CertName) → HaveText names → read_names (names_text names) ≡ Ok names }
+    ensures valid { (text : List ℕ) (names : List CertName) → SpellsNames text names → HaveText names }
 {}

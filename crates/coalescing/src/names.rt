@@ -1,6 +1,7 @@
 ghost use Rattle.std.specs.Prelude.{◌≡◌, ◌<◌, ◌^◌, length, IfOk};
 ghost use Rattle.origin_values.specs.Gives.{Gives, IfRefused};
 ghost use Rattle.coalescing.specs.NamesGrammar.{SpellsNames, NamesRefusedAt};
+ghost use Rattle.coalescing.specs.NamesWritten.{HaveText};
 ghost use Rattle.coalescing.specs.NamesReading.{host_name, read_item, read_items, items_of, read_names};
 
 use crate::{CertName, CertNames, CertRefusal};
@@ -15,6 +16,7 @@ pub fn parse_names(alloc: Global, text: &[u8]) -> Result<CertNames, Refused<Cert
     requires { length text.now < 2 ^ 32 }
     ensures reading { Gives result (read_names text.now) }
     ensures ok { IfOk result (λ names. SpellsNames text.now names) }
+    ensures valid { IfOk result (λ names. HaveText names) }
     ensures refused { IfRefused result (λ place reason. NamesRefusedAt text.now place reason) }
 {
     read_names(alloc, text)

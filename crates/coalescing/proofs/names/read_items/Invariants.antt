@@ -1,6 +1,4 @@
-use Rattle.std.proofs.Common.{◌≡◌, ◌+◌, length, drop}
-use Rattle.coalescing.specs.NamesGrammar.{with_commas}
-use Rattle.coalescing.specs.NamesReading.{read_items, items_of}
+use Rattle.std.proofs.Common.{length}
 use Rattle.coalescing.proofs.Reading.{IsSoFar}
 use Rattle.coalescing.proofs.names.read_items.Given as goal
 
