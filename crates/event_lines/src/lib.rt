@@ -1,0 +1,12 @@
+//! The lines of a history: what a line says, and the lines that events and actions are written as.
+#![tactic(auto)]
+
+mod action_line;
+mod event;
+mod pieces;
+mod protocols;
+mod refusal;
+
+pub use action_line::write_action;
+pub use event::Event;
+pub use refusal::LineRefusal;
