@@ -1,1 +1,5 @@
 pub mod ActionTexts
+pub mod Parts
+pub mod Fields
+pub mod LineReading
+pub mod Reads

@@ -3,10 +3,16 @@
 
 mod action_line;
 mod event;
+mod fields;
+mod kinds;
+mod line_reader;
+mod number;
 mod pieces;
 mod protocols;
+mod reading;
 mod refusal;
 
 pub use action_line::write_action;
 pub use event::Event;
+pub use reading::read_line;
 pub use refusal::LineRefusal;
