@@ -1,4 +1,5 @@
 pub mod ActionTexts
+pub mod EventTexts
 pub mod Parts
 pub mod Fields
 pub mod LineReading

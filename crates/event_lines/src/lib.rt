@@ -3,6 +3,7 @@
 
 mod action_line;
 mod event;
+mod event_line;
 mod fields;
 mod kinds;
 mod line_reader;
@@ -14,5 +15,6 @@ mod refusal;
 
 pub use action_line::write_action;
 pub use event::Event;
+pub use event_line::write_event;
 pub use reading::read_line;
 pub use refusal::LineRefusal;
