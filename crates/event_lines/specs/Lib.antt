@@ -4,3 +4,5 @@ pub mod Parts
 pub mod Fields
 pub mod LineReading
 pub mod Reads
+pub mod LineGrammar
+pub mod LineRefusals

@@ -12,6 +12,8 @@ mod pieces;
 mod protocols;
 mod reading;
 mod refusal;
+#[cfg(test)]
+mod tests;
 
 pub use action_line::write_action;
 pub use event::Event;
