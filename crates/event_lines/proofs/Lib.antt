@@ -9,3 +9,6 @@ pub mod KindsPass
 pub mod KindTexts
 pub mod LineCases
 pub mod Lines
+pub mod RefusedLines
+pub mod InnerBytes
+pub mod WrittenLines

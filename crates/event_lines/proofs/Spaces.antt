@@ -1,9 +1,11 @@
 -- Words and the spaces between them.
-use Rattle.std.proofs.Common.{◌≡◌, ◌≢◌, ℕ, ◌+◌, Bool, true, false, cond, nat_eq, List, [], ◌∷◌, ◌++◌, length, Result, Ok, Err, append-nil, refl, ap, sym, ◌∙◌, subst, arith}
+use Rattle.std.proofs.Common.{◌≡◌, ◌≢◌, ℕ, ◌+◌, Bool, true, false, cond, not, ◌&&◌, nat_eq, List, [], ◌∷◌, ◌++◌, length, Result, Ok, Err, append-nil, refl, ap, sym, ◌∙◌, subst, arith}
+use Rattle.std.specs.List.{list_all}
 use Rattle.event_lines.specs.Parts.{Part, is_space, before_space, from_space, Reading, word_behind, next_word, refused}
 use Rattle.event_lines.specs.LineGrammar.{NoSpace, AreApart, spaced}
 use Rattle.event_lines.specs.LineRefusals.{EndsWord, IsFront, IsNext}
 use Rattle.event_lines.specs.declared.refusal.LineRefusal.{LineRefusal}
+use Rattle.event_lines.proofs.Numbers.{both}
 use Rattle.event_lines.proofs.Words.{word_split}
 
 pub same_from_test : (a b : ℕ) → nat_eq a b ≡ true → a ≡ b
@@ -17,6 +19,20 @@ test_from_other a b h = grind arith
 
 pub other_from_test : (a b : ℕ) → nat_eq a b ≡ false → a ≢ b
 other_from_test a b h = grind arith
+
+-- a byte other than a space
+abbrev pub is_inner : ℕ → Bool
+is_inner b = not (nat_eq b 32)
+
+abbrev pub IsInner : List ℕ → Type 0
+IsInner text = list_all is_inner text ≡ true
+
+inner_byte : (b : ℕ) → is_inner b ≡ true → b ≢ 32
+inner_byte b h = grind arith
+
+pub no_space_from : (word : List ℕ) → IsInner word → NoSpace word
+no_space_from [] h = tt
+no_space_from (b ∷ bs) h = let t = both (is_inner b) (list_all is_inner bs) h in (inner_byte b t.0, no_space_from bs t.1)
 
 -- the word in front has no space, and what is left ends it
 pub word_apart : (x : List ℕ) → NoSpace (before_space x)

@@ -6,3 +6,4 @@ pub mod LineReading
 pub mod Reads
 pub mod LineGrammar
 pub mod LineRefusals
+pub mod HaveLines

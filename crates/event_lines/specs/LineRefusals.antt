@@ -45,10 +45,10 @@ kinds =
     ∷ record { name = codes "tick"; forms = [] }
     ∷ []
 
--- a kind of this name has fields of these forms
+-- the first kind of this name has fields of these forms
 abbrev pub IsAmong : List Kind → List ℕ → List Form → Type 0
 IsAmong [] name forms = ⊥
-IsAmong (kind ∷ more) name forms = ((name ≡ kind.name) × (forms ≡ kind.forms)) ⊎ IsAmong more name forms
+IsAmong (kind ∷ more) name forms = ((name ≡ kind.name) × (forms ≡ kind.forms)) ⊎ ((name ≢ kind.name) × IsAmong more name forms)
 
 -- no kind has this name
 abbrev pub IsNone : List Kind → List ℕ → Type 0

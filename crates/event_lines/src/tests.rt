@@ -39,9 +39,18 @@ fn lines_that_are_read(rt: HostRuntime) -> Result<(), Fail> {
             "0 opened 1 h2 192.0.2.1 443 *.A.example,b,::1",
             "0 opened 1 h2 192.0.2.1 443 *.a.example,b,::1",
         ),
-        ("0 opened 1 h3 2001:DB8::1 1 -", "0 opened 1 h3 2001:db8::1 1 -"),
-        ("0 opened 1 http/1.1 ::1 65535 a", "0 opened 1 http/1.1 ::1 65535 a"),
-        ("0 opened 1 other ::1 80 192.0.2.1", "0 opened 1 other ::1 80 192.0.2.1"),
+        (
+            "0 opened 1 h3 2001:DB8::1 1 -",
+            "0 opened 1 h3 2001:db8::1 1 -",
+        ),
+        (
+            "0 opened 1 http/1.1 ::1 65535 a",
+            "0 opened 1 http/1.1 ::1 65535 a",
+        ),
+        (
+            "0 opened 1 other ::1 80 192.0.2.1",
+            "0 opened 1 other ::1 80 192.0.2.1",
+        ),
     ];
     for (line, want) in table {
         let got = written(rt.alloc(), line);
@@ -80,7 +89,11 @@ fn lines_that_are_refused(rt: HostRuntime) {
         ("0 opened 1 h2 ::1 0 -", 18, LineRefusal::BadField),
         ("0 opened 1 h2 ::1 65536 -", 18, LineRefusal::BadField),
         ("0 opened 1 h2 ::1 443 ", 22, LineRefusal::BadField),
-        ("0 opened 1 h2 192.0.2.1 443 a..b", 28, LineRefusal::BadField),
+        (
+            "0 opened 1 h2 192.0.2.1 443 a..b",
+            28,
+            LineRefusal::BadField,
+        ),
         ("0 tick ", 7, LineRefusal::ExtraField),
         ("0 tick now", 7, LineRefusal::ExtraField),
         ("0 failed 1  ", 11, LineRefusal::ExtraField),
@@ -90,7 +103,13 @@ fn lines_that_are_refused(rt: HostRuntime) {
         assert!(rt; got.err() == Some(Refused::At { place, reason }));
     }
     let no_text = read(rt.alloc(), b"0 request 1 https://\xff.example");
-    assert!(rt; no_text.err() == Some(Refused::At { place: 12, reason: LineRefusal::BadField }));
+    assert!(rt;
+        no_text.err()
+            == Some(Refused::At {
+                place: 12,
+                reason: LineRefusal::BadField
+            })
+    );
 }
 
 #[test]
@@ -130,7 +149,10 @@ fn lines_of_actions(rt: HostRuntime) -> Result<(), Fail> {
             (Action::Lost { request: 9 }, "lost 9"),
         ];
         for (action, want) in actions {
-            assert_eq!(rt; write_action(rt.alloc(), &action)?.as_slice(), want.as_bytes());
+            assert_eq!(rt;
+                write_action(rt.alloc(), &action)?.as_slice(),
+                want.as_bytes()
+            );
         }
     }
     Ok(())
