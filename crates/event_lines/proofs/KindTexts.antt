@@ -1,0 +1,223 @@
+-- Each kind's fields against the grammar. A further kind is a case of `kind_complete` and one of `kind_sound`.
+use Rattle.std.proofs.Common.{◌≡◌, ℕ, ◌+◌, Bool, true, false, cond, nat_eq, List, [], ◌∷◌, ◌++◌, length, codes, Option, Some, None, Result, Ok, Err, append-nil, refl, ap, sym, ◌∙◌, subst}
+use Rattle.std.specs.Cmp.Lexicographic.{pointwise, same_text}
+use Rattle.alt_base.specs.declared.refusal.At.{At}
+use Rattle.origin_values.specs.HostReading.{read_addr}
+use Rattle.origin_values.specs.declared.address.Addr.{Addr}
+use Rattle.origin_values.specs.declared.origin.Origin.{Origin}
+use Rattle.origin_values.specs.declared.proto.Proto.{Proto}
+use Rattle.origin_values.proofs.Addresses.{read_addr_complete, read_addr_sound}
+use Rattle.coalescing.specs.declared.cert_name.CertName.{CertName}
+use Rattle.route_events.specs.declared.fact.Fact.TheVariants.{Request, Opened, Failed, Closed, Tick}
+use Rattle.event_lines.specs.Fields.{most_short, most_long, number_of, port_of, proto_of, origin_of, names_of}
+use Rattle.event_lines.specs.Parts.{Part, Reading, ◌>>=◌, next_word, value_or, field, refused}
+use Rattle.event_lines.specs.LineReading.{request_fields, opened_fields, failed_fields, closed_fields, kind_reading}
+use Rattle.event_lines.specs.LineGrammar.{NoSpace, AreApart, spaced, SpellsNumber, SpellsRequest, SpellsOpened, SpellsNumbered, SpellsKind}
+use Rattle.event_lines.specs.LineRefusals.{EndsWord, IsNext}
+use Rattle.event_lines.specs.declared.event.Event.{Event}
+use Rattle.event_lines.specs.declared.event.Event.TheVariants.{Client, Skip}
+use Rattle.event_lines.specs.declared.refusal.LineRefusal.{LineRefusal}
+use Rattle.event_lines.specs.declared.refusal.LineRefusal.TheVariants.{BadField, UnknownKind}
+use Rattle.event_lines.proofs.NumberTexts.{number_sound, number_complete, port_sound, port_complete}
+use Rattle.event_lines.proofs.FieldTexts.{proto_sound, proto_complete, origin_field_sound, origin_field_complete, names_field_sound, names_field_complete}
+use Rattle.event_lines.proofs.Spaces.{next_reads, next_spaced, Next, Nothing, More, next_of}
+
+abbrev part : List ℕ → ℕ → Part
+part text place = record { text = text; place = place }
+
+abbrev got : {A : Type 0} → A → Part → Reading A
+got value left = Ok (value, left)
+
+-- a field whose word is read
+pub field_reads : {A B : Type 0} (read : List ℕ → Option A) (next : A × Part → Reading B) (word : List ℕ) (words : List (List ℕ)) (place : ℕ) (value : A) → NoSpace word → read word ≡ Some value
+    → (field read (part (spaced (word ∷ words)) place) >>= next) ≡ next (value, part (spaced words) (place + 1 + length word))
+field_reads {A} {B} read next word words place value apart is =
+    ap (λ (r : Reading Part). (r >>= λ (w : Part × Part). value_or BadField w.0.place (read w.0.text) >>= λ v. got v w.1) >>= next) (next_reads BadField (spaced (word ∷ words)) word (spaced words) place (next_spaced word words apart))
+    ∙ ap (λ (o : Option A). (value_or BadField (place + 1) o >>= λ v. got v (part (spaced words) (place + 1 + length word))) >>= next) is
+
+-- what is read of a field, where a value comes of it and what follows
+pub record Found {A B : Type 0} (read : List ℕ → Option A) (next : A × Part → Reading B) (text : List ℕ) (place : ℕ) (end : B × Part) : Type 0 where
+  pub word : List ℕ
+  pub behind : List ℕ
+  pub value : A
+  pub is_next : IsNext text word behind
+  pub is_read : read word ≡ Some value
+  pub then_is : next (value, part behind (place + 1 + length word)) ≡ Ok end
+
+abbrev after_word : {A B : Type 0} → (List ℕ → Option A) → (A × Part → Reading B) → Reading Part → Reading B
+after_word read next r = (r >>= λ (w : Part × Part). value_or BadField w.0.place (read w.0.text) >>= λ v. got v w.1) >>= next
+
+pub field_found : {A B : Type 0} (read : List ℕ → Option A) (next : A × Part → Reading B) (text : List ℕ) (place : ℕ) (end : B × Part) → EndsWord text → (field read (part text place) >>= next) ≡ Ok end → Found read next text place end
+field_found {A} {B} read next text place end ends h = go (next_of text ends)
+  where
+    clash : (p : ℕ) (why : LineRefusal) → refused {A = B × Part} p why ≡ Ok end → ⊥
+    clash p why e = cc
+
+    at : (word behind : List ℕ) (o : Option A) → IsNext text word behind → read word ≡ o → ((value_or BadField (place + 1) o >>= λ v. got v (part behind (place + 1 + length word))) >>= next) ≡ Ok end → Found read next text place end
+    at word behind None s is e = absurd (clash (place + 1) BadField e)
+    at word behind (Some value) s is e = record { word = word; behind = behind; value = value; is_next = s; is_read = is; then_is = e }
+
+    go : Next text → Found read next text place end
+    go (Nothing none) = absurd (clash place BadField (sym (ap (λ t. after_word read next (next_word BadField (part t place))) none) ∙ h))
+    go (More word behind s) = at word behind (read word) s refl (sym (ap (after_word read next) (next_reads BadField text word behind place s)) ∙ h)
+
+-- the words of a text are joined again
+pub joined_last : (text word behind : List ℕ) → IsNext text word behind → behind ≡ [] → text ≡ spaced (word ∷ [])
+joined_last text word behind s none = s.spelled ∙ ap (λ t. 32 ∷ (word ++ t)) none
+
+pub joined : (text word behind : List ℕ) (words : List (List ℕ)) → IsNext text word behind → behind ≡ spaced words → text ≡ spaced (word ∷ words)
+joined text word behind words s more = s.spelled ∙ ap (λ t. 32 ∷ (word ++ t)) more
+
+got_parts : (a b : Event) (p q : Part) → got a p ≡ got b q → (a ≡ b) × (p ≡ q)
+got_parts a b p q h =
+    let both : pair a p ≡ pair b q = ok_parts (pair a p) (pair b q) h in (ap (λ (x : Event × Part). x.0) both, ap (λ (x : Event × Part). x.1) both)
+  where
+    pair : Event → Part → Event × Part
+    pair e r = (e, r)
+
+    ok_parts : (x y : Event × Part) → ◌≡◌ {A = Reading Event} (Ok x) (Ok y) → x ≡ y
+    ok_parts x y e = cc
+
+abbrev text_of : Part → List ℕ
+text_of p = p.text
+
+abbrev opened_names : ℕ → Proto → Addr → ℕ → List CertName × Part → Reading Event
+opened_names attempt proto addr port n = got (Client (Opened attempt proto addr port n.0)) n.1
+
+abbrev opened_port : ℕ → Proto → Addr → ℕ × Part → Reading Event
+opened_port attempt proto addr t = field names_of t.1 >>= opened_names attempt proto addr t.0
+
+abbrev opened_addr : ℕ → Proto → Addr × Part → Reading Event
+opened_addr attempt proto d = field port_of d.1 >>= opened_port attempt proto d.0
+
+abbrev opened_proto : ℕ → Proto × Part → Reading Event
+opened_proto attempt p = field read_addr p.1 >>= opened_addr attempt p.0
+
+abbrev opened_attempt : ℕ × Part → Reading Event
+opened_attempt a = field proto_of a.1 >>= opened_proto a.0
+
+abbrev request_origin : ℕ → Origin × Part → Reading Event
+request_origin number o = got (Client (Request number o.0)) o.1
+
+abbrev request_number : ℕ × Part → Reading Event
+request_number q = field origin_of q.1 >>= request_origin q.0
+
+abbrev numbered : (ℕ → Event) → ℕ × Part → Reading Event
+numbered event n = got (event n.0) n.1
+
+-- the fields that are spelled are read
+pub request_complete : (q o : List ℕ) (number : ℕ) (origin : Origin) (place : ℕ) → AreApart (q ∷ o ∷ []) → number_of most_short q ≡ Some number → origin_of o ≡ Some origin
+    → request_fields (part (spaced (q ∷ o ∷ [])) place) ≡ got (Client (Request number origin)) (part [] (place + 1 + length q + 1 + length o))
+request_complete q o number origin place apart is_number is_origin =
+    field_reads (number_of most_short) request_number q (o ∷ []) place number apart.0 is_number
+    ∙ field_reads origin_of (request_origin number) o [] (place + 1 + length q) origin apart.1.0 is_origin
+
+pub opened_complete : (a p d t n : List ℕ) (attempt : ℕ) (proto : Proto) (addr : Addr) (port : ℕ) (names : List CertName) (place : ℕ) → AreApart (a ∷ p ∷ d ∷ t ∷ n ∷ [])
+    → number_of most_long a ≡ Some attempt → proto_of p ≡ Some proto → read_addr d ≡ Some addr → port_of t ≡ Some port → names_of n ≡ Some names
+    → opened_fields (part (spaced (a ∷ p ∷ d ∷ t ∷ n ∷ [])) place)
+    ≡ got (Client (Opened attempt proto addr port names)) (part [] (place + 1 + length a + 1 + length p + 1 + length d + 1 + length t + 1 + length n))
+opened_complete a p d t n attempt proto addr port names place apart is_attempt is_proto is_addr is_port is_names =
+    field_reads (number_of most_long) opened_attempt a (p ∷ d ∷ t ∷ n ∷ []) place attempt apart.0 is_attempt
+    ∙ field_reads proto_of (opened_proto attempt) p (d ∷ t ∷ n ∷ []) (place + 1 + length a) proto apart.1.0 is_proto
+    ∙ field_reads read_addr (opened_addr attempt proto) d (t ∷ n ∷ []) (place + 1 + length a + 1 + length p) addr apart.1.1.0 is_addr
+    ∙ field_reads port_of (opened_port attempt proto addr) t (n ∷ []) (place + 1 + length a + 1 + length p + 1 + length d) port apart.1.1.1.0 is_port
+    ∙ field_reads names_of (opened_names attempt proto addr port) n [] (place + 1 + length a + 1 + length p + 1 + length d + 1 + length t) names apart.1.1.1.1.0 is_names
+
+pub numbered_complete : (event : ℕ → Event) (n : List ℕ) (number place : ℕ) → NoSpace n → number_of most_long n ≡ Some number
+    → (field (number_of most_long) (part (spaced (n ∷ [])) place) >>= numbered event) ≡ got (event number) (part [] (place + 1 + length n))
+numbered_complete event n number place apart is = field_reads (number_of most_long) (numbered event) n [] place number apart is
+
+-- what is read of a kind's fields is spelled so
+behind_kind : (kind text whole : List ℕ) (words : List (List ℕ)) → whole ≡ 32 ∷ (kind ++ text) → text ≡ spaced words → whole ≡ spaced (kind ∷ words)
+behind_kind kind text whole words is more = is ∙ ap (λ t. 32 ∷ (kind ++ t)) more
+
+pub request_sound : (text whole : List ℕ) (place : ℕ) (event : Event) (left : Part) → whole ≡ 32 ∷ (codes "request" ++ text) → EndsWord text → request_fields (part text place) ≡ got event left → left.text ≡ []
+    → SpellsKind whole event
+request_sound text whole place event left is ends h none =
+    let f = field_found (number_of most_short) request_number text place (event, left) ends h in
+    let g = field_found origin_of (request_origin f.value) f.behind (place + 1 + length f.word) (event, left) f.is_next.end f.then_is in
+    let last = got_parts (Client (Request f.value g.value)) event (part g.behind (place + 1 + length f.word + 1 + length g.word)) left g.then_is in
+    let spells : SpellsRequest whole f.value g.value = record {
+      number_text = f.word;
+      origin_text = g.word;
+      spelled = behind_kind (codes "request") text whole (f.word ∷ g.word ∷ []) is
+          (joined text f.word f.behind (g.word ∷ []) f.is_next (joined_last f.behind g.word g.behind g.is_next (ap text_of last.1 ∙ none)));
+      apart = (f.is_next.apart, (g.is_next.apart, tt));
+      of_number = number_sound most_short f.word f.value f.is_read;
+      of_origin = origin_field_sound g.word g.value g.is_read;
+    } in
+    subst (SpellsKind whole) last.0 spells
+
+pub numbered_sound : (event_of : ℕ → Event) (kind text whole : List ℕ) (place : ℕ) (event : Event) (left : Part) → ((n : ℕ) → SpellsNumbered kind whole n → SpellsKind whole (event_of n))
+    → whole ≡ 32 ∷ (kind ++ text) → EndsWord text → (field (number_of most_long) (part text place) >>= numbered event_of) ≡ got event left → left.text ≡ [] → SpellsKind whole event
+numbered_sound event_of kind text whole place event left as_kind is ends h none =
+    let f = field_found (number_of most_long) (numbered event_of) text place (event, left) ends h in
+    let last = got_parts (event_of f.value) event (part f.behind (place + 1 + length f.word)) left f.then_is in
+    let spells : SpellsNumbered kind whole f.value = record {
+      number_text = f.word;
+      spelled = behind_kind kind text whole (f.word ∷ []) is (joined_last text f.word f.behind f.is_next (ap text_of last.1 ∙ none));
+      apart = f.is_next.apart;
+      of_number = number_sound most_long f.word f.value f.is_read;
+    } in
+    subst (SpellsKind whole) last.0 (as_kind f.value spells)
+
+pub opened_sound : (text whole : List ℕ) (place : ℕ) (event : Event) (left : Part) → whole ≡ 32 ∷ (codes "opened" ++ text) → EndsWord text → opened_fields (part text place) ≡ got event left → left.text ≡ []
+    → SpellsKind whole event
+opened_sound text whole place event left is ends h none =
+    let a = field_found (number_of most_long) opened_attempt text place (event, left) ends h in
+    let p = field_found proto_of (opened_proto a.value) a.behind (place + 1 + length a.word) (event, left) a.is_next.end a.then_is in
+    let d = field_found read_addr (opened_addr a.value p.value) p.behind (place + 1 + length a.word + 1 + length p.word) (event, left) p.is_next.end p.then_is in
+    let t = field_found port_of (opened_port a.value p.value d.value) d.behind (place + 1 + length a.word + 1 + length p.word + 1 + length d.word) (event, left) d.is_next.end d.then_is in
+    let n = field_found names_of (opened_names a.value p.value d.value t.value) t.behind (place + 1 + length a.word + 1 + length p.word + 1 + length d.word + 1 + length t.word) (event, left) t.is_next.end t.then_is in
+    let last = got_parts (Client (Opened a.value p.value d.value t.value n.value)) event
+    (part n.behind (place + 1 + length a.word + 1 + length p.word + 1 + length d.word + 1 + length t.word + 1 + length n.word)) left n.then_is in
+    let spells : SpellsOpened whole a.value p.value d.value t.value n.value = record {
+      attempt_text = a.word;
+      protocol_text = p.word;
+      addr_text = d.word;
+      port_text = t.word;
+      names_text = n.word;
+      spelled = behind_kind (codes "opened") text whole (a.word ∷ p.word ∷ d.word ∷ t.word ∷ n.word ∷ []) is
+          (joined text a.word a.behind (p.word ∷ d.word ∷ t.word ∷ n.word ∷ []) a.is_next
+          (joined a.behind p.word p.behind (d.word ∷ t.word ∷ n.word ∷ []) p.is_next
+          (joined p.behind d.word d.behind (t.word ∷ n.word ∷ []) d.is_next
+          (joined d.behind t.word t.behind (n.word ∷ []) t.is_next
+          (joined_last t.behind n.word n.behind n.is_next (ap text_of last.1 ∙ none))))));
+      apart = (a.is_next.apart, (p.is_next.apart, (d.is_next.apart, (t.is_next.apart, (n.is_next.apart, tt)))));
+      of_attempt = number_sound most_long a.word a.value a.is_read;
+      of_proto = proto_sound p.word p.value p.is_read;
+      of_addr = read_addr_sound d.word d.value d.is_read;
+      of_port = port_sound t.word t.value t.is_read;
+      of_names = names_field_sound n.word n.value n.is_read;
+    } in
+    subst (SpellsKind whole) last.0 spells
+
+abbrev is_name : List ℕ → List ℕ → Bool
+is_name name kind = pointwise nat_eq name kind
+
+-- what is read of a kind, up to the end of the line
+pub kind_sound : (name text whole : List ℕ) (p q : ℕ) (event : Event) (left : Part) → whole ≡ 32 ∷ (name ++ text) → EndsWord text → kind_reading (part name p) (part text q) ≡ got event left → left.text ≡ []
+    → SpellsKind whole event
+kind_sound name text whole p q event left is ends h none = go (is_name name (codes "request")) (is_name name (codes "opened")) (is_name name (codes "failed")) (is_name name (codes "closed")) (is_name name (codes "tick")) refl refl refl refl refl h
+  where
+    named : (kind : List ℕ) → is_name name kind ≡ true → whole ≡ 32 ∷ (kind ++ text)
+    named kind t = is ∙ ap (λ n. 32 ∷ (n ++ text)) (same_text name kind (sym t))
+
+    clash : refused {A = Event × Part} p UnknownKind ≡ got event left → ⊥
+    clash e = cc
+
+    ticked : whole ≡ 32 ∷ (codes "tick" ++ text) → got (Client Tick) (part text q) ≡ got event left → SpellsKind whole event
+    ticked w e =
+        let last = got_parts (Client Tick) event (part text q) left e in
+        let spells : SpellsKind whole (Client Tick) = behind_kind (codes "tick") text whole [] w (ap text_of last.1 ∙ none) in
+        subst (SpellsKind whole) last.0 spells
+
+    go : (a b c d e : Bool) → is_name name (codes "request") ≡ a → is_name name (codes "opened") ≡ b → is_name name (codes "failed") ≡ c → is_name name (codes "closed") ≡ d → is_name name (codes "tick") ≡ e
+        → cond a (request_fields (part text q)) (cond b (opened_fields (part text q)) (cond c (failed_fields (part text q)) (cond d (closed_fields (part text q)) (cond e (got (Client Tick) (part text q)) (refused p UnknownKind)))))
+        ≡ got event left → SpellsKind whole event
+    go true b c d e r o f l t k = request_sound text whole q event left (named (codes "request") r) ends k none
+    go false true c d e r o f l t k = opened_sound text whole q event left (named (codes "opened") o) ends k none
+    go false false true d e r o f l t k = numbered_sound (λ n. Client (Failed n)) (codes "failed") text whole q event left (λ n s. s) (named (codes "failed") f) ends k none
+    go false false false true e r o f l t k = numbered_sound (λ n. Client (Closed n)) (codes "closed") text whole q event left (λ n s. s) (named (codes "closed") l) ends k none
+    go false false false false true r o f l t k = ticked (named (codes "tick") t) k
+    go false false false false false r o f l t k = absurd (clash k)

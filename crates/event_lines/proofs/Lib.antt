@@ -1,0 +1,14 @@
+pub mod Numbers
+pub mod Words
+pub mod Steps
+pub mod NumberTexts
+pub mod FieldTexts
+pub mod Spaces
+pub mod Skeleton
+pub mod KindsPass
+pub mod KindTexts
+pub mod LineCases
+pub mod Lines
+pub mod RefusedLines
+pub mod InnerBytes
+pub mod WrittenLines

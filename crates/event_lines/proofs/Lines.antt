@@ -1,0 +1,146 @@
+-- The reading of lines against their grammar.
+use Rattle.std.proofs.Common.{◌≡◌, ◌≢◌, ◌⊎◌, ℕ, ◌+◌, Bool, true, false, cond, nat_eq, List, [], ◌∷◌, ◌++◌, length, codes, Option, Some, None, Result, Ok, Err, append-nil, length-append, refl, ap, sym, ◌∙◌, subst, arith, inl, inr}
+use Rattle.alt_base.specs.declared.refusal.At.{At}
+use Rattle.route_events.specs.declared.fact.Fact.TheVariants.{Request, Opened, Failed, Closed, Tick}
+use Rattle.event_lines.specs.Fields.{most_short, most_long, number_of}
+use Rattle.event_lines.specs.Parts.{Part, Reading, ◌>>=◌, refused}
+use Rattle.event_lines.specs.LineReading.{kind_reading, end_reading, line_reading}
+use Rattle.event_lines.specs.LineGrammar.{SpellsNumber, NoSpace, spaced, AreApart, SpellsKind, IsSkipped, SpellsSkip, SpellsEvent, SpellsLine}
+use Rattle.event_lines.specs.LineRefusals.{EndsWord, IsNext, Form, Kind, kinds, IsAmong, IsNone, FieldsRefusedAt, IsBadMoment, IsNoKind, IsOtherKind, IsWrongField, LineRefusedAt, OneLine}
+use Rattle.event_lines.specs.declared.event.Event.{Event}
+use Rattle.event_lines.specs.declared.event.Event.TheVariants.{Client, Skip}
+use Rattle.event_lines.specs.declared.refusal.LineRefusal.{LineRefusal}
+use Rattle.event_lines.specs.declared.refusal.LineRefusal.TheVariants.{BadMoment, UnknownKind, BadField, ExtraField}
+use Rattle.event_lines.proofs.NumberTexts.{number_complete, port_complete}
+use Rattle.event_lines.proofs.FieldTexts.{proto_complete, origin_field_complete, names_field_complete}
+use Rattle.event_lines.proofs.Spaces.{IsInner, no_space_from, next_spaced}
+use Rattle.event_lines.proofs.Skeleton.{Passed, pass_fields, ended, fields_refused, fields_say}
+use Rattle.event_lines.proofs.KindsPass.{pass_kind, kinds_pass}
+use Rattle.event_lines.proofs.KindTexts.{request_complete, opened_complete, numbered_complete, kind_sound}
+use Rattle.event_lines.proofs.LineCases.{Said, part, bad_line, whole, behind_moment, skip_reads, number_apart, no_moment, with_moment, with_kind, no_kind, MomentAlone, Kinded, NoMoment, Line, Skipped, Wordless, Alone, Full, line_of}
+use Rattle.origin_values.proofs.Addresses.{read_addr_complete}
+
+abbrev got : Event → Part → Reading Event
+got event left = Ok (event, left)
+
+abbrev pub said : ℕ → Event → Said
+said now event = Ok (now, event)
+
+-- what is read of a whole is read of its kind
+record Ended (reading : Reading Event) (event : Event) : Type 0 where
+  left : Part
+  is : reading ≡ got event left
+  nothing : left.text ≡ []
+
+pub said_parts : (m n : ℕ) (a b : Event) → said m a ≡ said n b → (m ≡ n) × (a ≡ b)
+said_parts m n a b h = (ap (λ (x : ℕ × Event). x.0) (same (m, a) (n, b) h), ap (λ (x : ℕ × Event). x.1) (same (m, a) (n, b) h))
+  where
+    same : (x y : ℕ × Event) → ◌≡◌ {A = Said} (Ok x) (Ok y) → x ≡ y
+    same x y e = cc
+
+at_end : (now m : ℕ) (read event : Event) (place : ℕ) (text : List ℕ) → whole now (got read (part text place)) ≡ said m event → (text ≡ []) × (now ≡ m) × (read ≡ event)
+at_end now m read event place [] h = let same = said_parts now m read event h in (refl, same.0, same.1)
+at_end now m read event place (b ∷ bs) h = cc
+
+whole_ok : (now m : ℕ) (event : Event) (reading : Reading Event) → whole now reading ≡ said m event → (now ≡ m) × Ended reading event
+whole_ok now m event (Err why) h = cc
+whole_ok now m event (Ok read) h =
+    let end = at_end now m read.0 event read.1.place read.1.text h in
+    (end.1, record { left = read.1; is = ap (λ e. got e read.1) end.2; nothing = end.0 })
+
+passed_err : (a b : At LineRefusal) → ◌≡◌ {A = Passed} (Err a) (Err b) → a ≡ b
+passed_err a b e = cc
+
+pub said_err : (a b : At LineRefusal) → ◌≡◌ {A = Said} (Err a) (Err b) → a ≡ b
+said_err a b e = cc
+
+abbrev as_said : At LineRefusal → Said
+as_said why = Err why
+
+abbrev as_passed : At LineRefusal → Passed
+as_passed why = Err why
+
+abbrev pub at_place : ℕ → LineRefusal → At LineRefusal
+at_place place reason = record { place = place; reason = reason }
+
+end_refused : (now : ℕ) (event : Event) (end : Passed) (place : ℕ) (reason : LineRefusal) → end ≡ refused place reason → (end >>= λ (w : Unit {0}). said now event) ≡ bad_line place reason
+end_refused now event (Ok w) place reason h = cc
+end_refused now event (Err why) place reason h = ap as_said (passed_err why (at_place place reason) h)
+
+end_says : (now : ℕ) (event : Event) (end : Passed) (place : ℕ) (reason : LineRefusal) → (end >>= λ (w : Unit {0}). said now event) ≡ bad_line place reason → end ≡ refused place reason
+end_says now event (Ok w) place reason h = cc
+end_says now event (Err why) place reason h = ap as_passed (said_err why (at_place place reason) h)
+
+-- a whole is refused where its kind is
+pub whole_refused : (now : ℕ) (reading : Reading Event) (place : ℕ) (reason : LineRefusal) → ended reading ≡ refused place reason → whole now reading ≡ bad_line place reason
+whole_refused now (Err why) place reason h = ap as_said (passed_err why (at_place place reason) h)
+whole_refused now (Ok read) place reason h = end_refused now read.0 (end_reading read.1) place reason h
+
+pub whole_says : (now : ℕ) (reading : Reading Event) (place : ℕ) (reason : LineRefusal) → whole now reading ≡ bad_line place reason → ended reading ≡ refused place reason
+whole_says now (Err why) place reason h = ap as_passed (said_err why (at_place place reason) h)
+whole_says now (Ok read) place reason h = end_says now read.0 (end_reading read.1) place reason h
+
+-- what is read is spelled
+pub line_sound : (line : List ℕ) (now : ℕ) (event : Event) → line_reading line ≡ said now event → SpellsLine line now event
+line_sound line now event h = go (line_of line)
+  where
+    clash : (place : ℕ) (reason : LineRefusal) → bad_line place reason ≡ said now event → ⊥
+    clash place reason e = cc
+
+    go : Line line → SpellsLine line now event
+    go (Skipped s) = let same = said_parts 0 now Skip event (sym (skip_reads line s) ∙ h) in inl (record { skipped = s; at = sym same.0; nothing = sym same.1 })
+    go (Wordless s) = absurd (clash 0 BadMoment (sym (no_moment line s.word s.behind s.front s.not_skipped s.none) ∙ h))
+    go (Alone s) = absurd (clash (length line) UnknownKind (sym (with_moment line line [] s.now (sym (append-nil line)) s.of_moment tt ∙ no_kind s.now (length line) [] refl) ∙ h))
+    go (Full s) =
+        let place = length s.moment in
+        let reads = with_moment line s.moment s.text s.now s.spelled s.of_moment (subst EndsWord (sym s.next.spelled) refl) ∙ with_kind s.now place s.text s.name s.behind s.next in
+        let end = whole_ok s.now now event (kind_reading (part s.name (place + 1)) (part s.behind (place + 1 + length s.name))) (sym reads ∙ h) in
+        inr (record {
+          moment = s.moment;
+          text = s.text;
+          spelled = s.spelled;
+          of_moment = subst (SpellsNumber most_short s.moment) end.0 s.of_moment;
+          of_kind = kind_sound s.name s.behind s.text (place + 1) (place + 1 + length s.name) event end.1.left s.next.spelled s.next.end end.1.is end.1.nothing;
+        })
+
+-- a kind that is spelled is read
+named : (now place : ℕ) (text name : List ℕ) (words : List (List ℕ)) → text ≡ spaced (name ∷ words) → IsInner name
+    → behind_moment now (part text place) ≡ whole now (kind_reading (part name (place + 1)) (part (spaced words) (place + 1 + length name)))
+named now place text name words is plain =
+    ap (λ t. behind_moment now (part t place)) is
+    ∙ with_kind now place (spaced (name ∷ words)) name (spaced words) (next_spaced name words (no_space_from name plain))
+
+kind_complete : (now place : ℕ) (text : List ℕ) (event : Event) → SpellsKind text event → behind_moment now (part text place) ≡ said now event
+kind_complete now place text (Client (Request number origin)) s =
+    named now place text (codes "request") (s.number_text ∷ s.origin_text ∷ []) s.spelled refl
+    ∙ ap (whole now) (request_complete s.number_text s.origin_text number origin (place + 1 + 7) s.apart (number_complete most_short s.number_text number s.of_number) (origin_field_complete s.origin_text origin s.of_origin))
+kind_complete now place text (Client (Opened attempt proto addr port names)) s =
+    named now place text (codes "opened") (s.attempt_text ∷ s.protocol_text ∷ s.addr_text ∷ s.port_text ∷ s.names_text ∷ []) s.spelled refl
+    ∙ ap (whole now) (opened_complete s.attempt_text s.protocol_text s.addr_text s.port_text s.names_text attempt proto addr port names (place + 1 + 6) s.apart
+    (number_complete most_long s.attempt_text attempt s.of_attempt) (proto_complete s.protocol_text proto s.of_proto) (read_addr_complete s.addr_text addr s.of_addr) (port_complete s.port_text port s.of_port)
+    (names_field_complete s.names_text names s.of_names))
+kind_complete now place text (Client (Failed attempt)) s =
+    named now place text (codes "failed") (s.number_text ∷ []) s.spelled refl
+    ∙ ap (whole now) (numbered_complete (λ n. Client (Failed n)) s.number_text attempt (place + 1 + 6) s.apart (number_complete most_long s.number_text attempt s.of_number))
+kind_complete now place text (Client (Closed conn)) s =
+    named now place text (codes "closed") (s.number_text ∷ []) s.spelled refl
+    ∙ ap (whole now) (numbered_complete (λ n. Client (Closed n)) s.number_text conn (place + 1 + 6) s.apart (number_complete most_long s.number_text conn s.of_number))
+kind_complete now place text (Client Tick) s = named now place text (codes "tick") [] s refl
+kind_complete now place text Skip s = absurd s
+
+begins_spaced : (text rest : List ℕ) → text ≡ 32 ∷ rest → EndsWord text
+begins_spaced text rest is = subst EndsWord (sym is) refl
+
+kind_ends : (text : List ℕ) (event : Event) → SpellsKind text event → EndsWord text
+kind_ends text (Client (Request number origin)) s = begins_spaced text _ s.spelled
+kind_ends text (Client (Opened attempt proto addr port names)) s = begins_spaced text _ s.spelled
+kind_ends text (Client (Failed attempt)) s = begins_spaced text _ s.spelled
+kind_ends text (Client (Closed conn)) s = begins_spaced text _ s.spelled
+kind_ends text (Client Tick) s = begins_spaced text _ s
+kind_ends text Skip s = absurd s
+
+-- what is spelled is read
+pub line_complete : (line : List ℕ) (now : ℕ) (event : Event) → SpellsLine line now event → line_reading line ≡ said now event
+line_complete line now event (inl s) = skip_reads line s.skipped ∙ ap (λ n. said n Skip) (sym s.at) ∙ ap (said now) (sym s.nothing)
+line_complete line now event (inr s) =
+    with_moment line s.moment s.text now s.spelled s.of_moment (kind_ends s.text event s.of_kind) ∙ kind_complete now (length s.moment) s.text event s.of_kind

@@ -1,0 +1,96 @@
+-- Numbers and ports against their grammar.
+use Rattle.std.proofs.Common.{◌≡◌, ◌≢◌, ℕ, suc, ◌-◌, ◌<◌, ◌≤◌, ◌^◌, Bool, true, false, cond, not, ◌&&◌, nat_eq, nat_le, nat_lt, List, [], ◌∷◌, length, Option, None, Some, refl, ap, sym, ◌∙◌, subst, arith}
+use Rattle.std.specs.List.{list_all}
+use Rattle.std.specs.Option.{option_and_then}
+use Rattle.std.specs.Char.{is_ascii_digit, digit_value}
+use Rattle.std.specs.Str.Parse.{AllDigits, IsNumeral, digits_value}
+use Rattle.origin_values.proofs.Names.{digits_pass}
+use Rattle.event_lines.specs.Fields.{is_number, number_within, number_of, unless_zero, port_of, most_port}
+use Rattle.event_lines.specs.LineGrammar.{NoLeadingZero, SpellsNumber, SpellsPort}
+use Rattle.event_lines.proofs.Numbers.{both, le_from_test, test_from_le, digit_code, value_of_digit}
+
+and_from : (a b : Bool) → a ≡ true → b ≡ true → (a && b) ≡ true
+and_from a b h k = rw (h, k) refl
+
+not_true : (a : Bool) → not a ≡ true → a ≡ false
+not_true true h = cc
+not_true false h = refl
+
+other_from_test : (a b : ℕ) → nat_eq a b ≡ false → a ≢ b
+other_from_test a b h = grind arith
+
+test_from_other : (a b : ℕ) → a ≢ b → nat_eq a b ≡ false
+test_from_other a b h = grind arith
+
+lt_from_test : (a b : ℕ) → nat_lt a b ≡ true → a < b
+lt_from_test a b h = grind arith
+
+test_from_lt : (a b : ℕ) → a < b → nat_lt a b ≡ true
+test_from_lt a b h = grind arith
+
+digit_below : (b : ℕ) → is_ascii_digit b ≡ true → digit_value b < 10
+digit_below b h = let code = digit_code b h in omega (arith, value_of_digit b h, code.0, code.1)
+
+all_digits : (ds : List ℕ) → list_all is_ascii_digit ds ≡ true → AllDigits 10 ds
+all_digits [] h = tt
+all_digits (d ∷ ds) h = let t = both (is_ascii_digit d) (list_all is_ascii_digit ds) h in (digit_below d t.0, all_digits ds t.1)
+
+record HasForm (text : List ℕ) : Type 0 where
+  numeral : IsNumeral 10 text
+  no_zero : NoLeadingZero text
+
+form_from_test : (text : List ℕ) → is_number text ≡ true → HasForm text
+form_from_test [] h = cc
+form_from_test (b ∷ []) h = record { numeral = (omega arith, (digit_below b h, tt)); no_zero = tt }
+form_from_test (b ∷ c ∷ bs) h =
+    let t = both (not (nat_eq b 48)) (list_all is_ascii_digit (b ∷ c ∷ bs)) h in
+    record { numeral = (omega arith, all_digits (b ∷ c ∷ bs) t.1); no_zero = other_from_test b 48 (not_true (nat_eq b 48) t.0) }
+
+test_from_form : (text : List ℕ) → IsNumeral 10 text → NoLeadingZero text → is_number text ≡ true
+test_from_form [] h k = absurd (omega (arith, h.0))
+test_from_form (b ∷ []) h k = (both (is_ascii_digit b) true (digits_pass (b ∷ []) h.1)).0
+test_from_form (b ∷ c ∷ bs) h k = and_from _ _ (ap not (test_from_other b 48 k)) (digits_pass (b ∷ c ∷ bs) h.1)
+
+within_sound : (most v n : ℕ) → number_within most v ≡ Some n → (n ≡ v) × (v ≤ most)
+within_sound most v n h = go (nat_le v most) refl h
+  where
+    go : (t : Bool) → nat_le v most ≡ t → cond t (Some v) None ≡ Some n → (n ≡ v) × (v ≤ most)
+    go true is e = (cc, le_from_test v most is)
+    go false is e = cc
+
+pub number_sound : (most : ℕ) (text : List ℕ) (n : ℕ) → number_of most text ≡ Some n → SpellsNumber most text n
+number_sound most text n h = go (is_number text) refl h
+  where
+    go : (t : Bool) → is_number text ≡ t → cond t (number_within most (digits_value 10 text)) None ≡ Some n → SpellsNumber most text n
+    go true is e =
+        let form = form_from_test text is in
+        let value = within_sound most (digits_value 10 text) n e in
+        record { numeral = form.numeral; no_zero = form.no_zero; value = value.0; within = omega (arith, value.0, value.1) }
+    go false is e = cc
+
+pub number_complete : (most : ℕ) (text : List ℕ) (n : ℕ) → SpellsNumber most text n → number_of most text ≡ Some n
+number_complete most text n s =
+    ap (λ t. cond t (number_within most (digits_value 10 text)) None) (test_from_form text s.numeral s.no_zero)
+    ∙ ap (number_within most) (sym s.value)
+    ∙ ap (λ t. cond t (Some n) None) (test_from_le n most s.within)
+
+pub port_sound : (text : List ℕ) (port : ℕ) → port_of text ≡ Some port → SpellsPort text port
+port_sound text port h = go (number_of most_port text) refl h
+  where
+    positive : (n : ℕ) → unless_zero n ≡ Some port → (n ≡ port) × (0 < n)
+    positive n e = at (nat_lt 0 n) refl e
+      where
+        at : (t : Bool) → nat_lt 0 n ≡ t → cond t (Some n) None ≡ Some port → (n ≡ port) × (0 < n)
+        at true is f = (cc, lt_from_test 0 n is)
+        at false is f = cc
+
+    go : (o : Option ℕ) → number_of most_port text ≡ o → option_and_then unless_zero o ≡ Some port → SpellsPort text port
+    go None is e = cc
+    go (Some n) is e =
+        let p = positive n e in
+        record { number = subst (SpellsNumber most_port text) p.0 (number_sound most_port text n is); some = omega (arith, p.0, p.1) }
+
+pub port_complete : (text : List ℕ) (port : ℕ) → SpellsPort text port → port_of text ≡ Some port
+port_complete text port s =
+    ap (option_and_then unless_zero) (number_complete most_port text port s.number)
+    ∙ ap (λ t. cond t (Some port) None) (test_from_lt 0 port (omega (arith, s.some)))

@@ -1,0 +1,138 @@
+-- The line of an event says it, and what a line says has a line.
+use Rattle.std.proofs.Common.{◌≡◌, ◌≢◌, ◌⊎◌, ℕ, zero, suc, ◌+◌, ◌<◌, ◌≤◌, ◌^◌, List, [], ◌∷◌, ◌++◌, length, get_or, decimal, codes, append_assoc, append-nil, refl, ap, sym, ◌∙◌, subst, arith, inl, inr}
+use Rattle.std.proofs.lemmas.Fmt.{decimal_is_IsNumeral, decimal_digit, first_decimal}
+use Rattle.origin_values.specs.Written.{addr_text, origin_text}
+use Rattle.origin_values.specs.declared.address.Addr.{Addr}
+use Rattle.origin_values.specs.declared.origin.Origin.{Origin}
+use Rattle.origin_values.specs.declared.proto.Proto.{Proto}
+use Rattle.origin_values.specs.declared.proto.Proto.TheVariants.{H2, H3, Http11, Other}
+use Rattle.origin_values.proofs.AddressTexts.{addr_written, addr_valid}
+use Rattle.origin_values.proofs.OriginTexts.{origin_written, origin_valid}
+use Rattle.coalescing.specs.NamesWritten.{names_text}
+use Rattle.coalescing.specs.declared.cert_name.CertName.{CertName}
+use Rattle.coalescing.proofs.NamesTexts.{names_written, names_valid}
+use Rattle.route_events.specs.declared.fact.Fact.{Fact}
+use Rattle.route_events.specs.declared.fact.Fact.TheVariants.{Request, Opened, Failed, Closed, Tick}
+use Rattle.event_lines.specs.EventTexts.{proto_text, opened_text, fact_text, event_text}
+use Rattle.event_lines.specs.Fields.{most_short, most_long, most_port}
+use Rattle.event_lines.specs.HaveLines.{HasOpenedLine, HasFactLine, HasLine}
+use Rattle.event_lines.specs.LineGrammar.{NoLeadingZero, SpellsNumber, NoSpace, spaced, SpellsRequest, SpellsOpened, SpellsNumbered, SpellsKind, SpellsEvent, SpellsLine}
+use Rattle.event_lines.specs.LineReading.{line_reading}
+use Rattle.event_lines.specs.declared.event.Event.{Event}
+use Rattle.event_lines.specs.declared.event.Event.TheVariants.{Client, Skip}
+use Rattle.event_lines.proofs.InnerBytes.{number_inner, addr_inner, origin_inner, names_inner}
+use Rattle.event_lines.proofs.Spaces.{IsInner, no_space_from}
+use Rattle.event_lines.proofs.Lines.{said, line_complete}
+
+leads : (text : List ℕ) → 48 < get_or text 0 0 → NoLeadingZero text
+leads [] h = tt
+leads (b ∷ []) h = tt
+leads (b ∷ c ∷ bs) h = λ e. omega arith
+
+decimal_leads : (n : ℕ) → n < 2 ^ 64 → NoLeadingZero (decimal n)
+decimal_leads zero small = subst NoLeadingZero (sym (decimal_digit 0 (omega arith))) tt
+decimal_leads (suc n) small = leads (decimal (suc n)) (first_decimal (suc n) (omega arith) small)
+
+number_written : (most n : ℕ) → most < 2 ^ 64 → n ≤ most → SpellsNumber most (decimal n) n
+number_written most n small within =
+    let digits = decimal_is_IsNumeral n (omega arith) in
+    record { numeral = digits.0; no_zero = decimal_leads n (omega arith); value = sym digits.1; within = within }
+
+number_apart : (most n : ℕ) → most < 2 ^ 64 → n ≤ most → NoSpace (decimal n)
+number_apart most n small within = no_space_from (decimal n) (number_inner n (omega arith))
+
+proto_inner : (proto : Proto) → IsInner (proto_text proto)
+proto_inner H2 = refl
+proto_inner H3 = refl
+proto_inner Http11 = refl
+proto_inner Other = refl
+
+request_joined : (q o : List ℕ) → 32 ∷ (codes "request " ++ q ++ codes " " ++ o) ≡ spaced (codes "request" ∷ q ∷ o ∷ [])
+request_joined q o = simp (append_assoc, append-nil)
+
+opened_joined : (a p d t n : List ℕ) → 32 ∷ (codes "opened " ++ a ++ codes " " ++ p ++ codes " " ++ d ++ codes " " ++ t ++ codes " " ++ n) ≡ spaced (codes "opened" ∷ a ∷ p ∷ d ∷ t ∷ n ∷ [])
+opened_joined a p d t n = simp (append_assoc, append-nil)
+
+failed_joined : (n : List ℕ) → 32 ∷ (codes "failed " ++ n) ≡ spaced (codes "failed" ∷ n ∷ [])
+failed_joined n = simp append-nil
+
+closed_joined : (n : List ℕ) → 32 ∷ (codes "closed " ++ n) ≡ spaced (codes "closed" ∷ n ∷ [])
+closed_joined n = simp append-nil
+
+opened_written : (attempt : ℕ) (proto : Proto) (addr : Addr) (port : ℕ) (names : List CertName) → HasOpenedLine attempt addr port names → SpellsOpened (32 ∷ opened_text attempt proto addr port names) attempt proto addr port names
+opened_written attempt proto addr port names h = record {
+  attempt_text = decimal attempt;
+  protocol_text = proto_text proto;
+  addr_text = addr_text addr;
+  port_text = decimal port;
+  names_text = names_text names;
+  spelled = opened_joined (decimal attempt) (proto_text proto) (addr_text addr) (decimal port) (names_text names);
+  apart = (
+    number_apart most_long attempt (omega arith) h.attempt_within,
+    (
+      no_space_from (proto_text proto) (proto_inner proto),
+      (
+        no_space_from (addr_text addr) (addr_inner addr h.of_addr),
+        (
+          number_apart most_port port (omega arith) h.port_within,
+          (no_space_from (names_text names) (names_inner names h.of_names), tt),
+        ),
+      ),
+    ),
+  );
+  of_attempt = number_written most_long attempt (omega arith) h.attempt_within;
+  of_proto = refl;
+  of_addr = addr_written addr h.of_addr;
+  of_port = record { number = number_written most_port port (omega arith) h.port_within; some = h.some_port };
+  of_names = names_written names h.of_names;
+}
+
+fact_written : (fact : Fact) → HasFactLine fact → SpellsKind (32 ∷ fact_text fact) (Client fact)
+fact_written (Request number origin) h = record {
+  number_text = decimal number;
+  origin_text = origin_text origin;
+  spelled = request_joined (decimal number) (origin_text origin);
+  apart = (number_apart most_short number (omega arith) h.0, (no_space_from (origin_text origin) (origin_inner origin h.1), tt));
+  of_number = number_written most_short number (omega arith) h.0;
+  of_origin = origin_written origin h.1;
+}
+fact_written (Opened attempt proto addr port names) h = opened_written attempt proto addr port names h
+fact_written (Failed attempt) h = record { number_text = decimal attempt; spelled = failed_joined (decimal attempt); apart = number_apart most_long attempt (omega arith) h; of_number = number_written most_long attempt (omega arith) h }
+fact_written (Closed conn) h = record { number_text = decimal conn; spelled = closed_joined (decimal conn); apart = number_apart most_long conn (omega arith) h; of_number = number_written most_long conn (omega arith) h }
+fact_written Tick h = refl
+
+-- the line of an event says it
+pub line_written : (now : ℕ) (event : Event) → HasLine now event → SpellsLine (event_text now event) now event
+line_written now (Client fact) h = inr (record {
+  moment = decimal now;
+  text = 32 ∷ fact_text fact;
+  spelled = append_assoc (decimal now) (32 ∷ []) (fact_text fact);
+  of_moment = number_written most_short now (omega arith) h.0;
+  of_kind = fact_written fact h.1;
+})
+line_written now Skip h = inl (record { skipped = tt; at = h; nothing = refl })
+
+pub line_back : (now : ℕ) (event : Event) → HasLine now event → line_reading (event_text now event) ≡ said now event
+line_back now event h = line_complete (event_text now event) now event (line_written now event h)
+
+-- what a line says has a line
+fact_valid : (text : List ℕ) (fact : Fact) → SpellsKind text (Client fact) → HasFactLine fact
+fact_valid text (Request number origin) s = (s.of_number.within, origin_valid s.origin_text origin s.of_origin)
+fact_valid text (Opened attempt proto addr port names) s = record {
+  attempt_within = s.of_attempt.within;
+  of_addr = addr_valid s.addr_text addr s.of_addr;
+  some_port = s.of_port.some;
+  port_within = s.of_port.number.within;
+  of_names = names_valid s.names_text names s.of_names;
+}
+fact_valid text (Failed attempt) s = s.of_number.within
+fact_valid text (Closed conn) s = s.of_number.within
+fact_valid text Tick s = tt
+
+event_valid : (line : List ℕ) (now : ℕ) (event : Event) → SpellsEvent line now event → HasLine now event
+event_valid line now (Client fact) s = (s.of_moment.within, fact_valid s.text fact s.of_kind)
+event_valid line now Skip s = absurd s.of_kind
+
+pub line_valid : (line : List ℕ) (now : ℕ) (event : Event) → SpellsLine line now event → HasLine now event
+line_valid line now event (inl s) = subst (HasLine now) (sym s.nothing) s.at
+line_valid line now event (inr s) = event_valid line now event s

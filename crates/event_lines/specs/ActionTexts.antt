@@ -1,0 +1,57 @@
+-- The lines of actions, each without a newline.
+use Rattle.std.specs.Prelude.{ℕ, Bool, true, false, List, [], ◌∷◌, ◌++◌, codes, decimal, Option, Some, None, if◌then◌else◌, ◌==◌}
+use Rattle.std.specs.List.{join_with_byte}
+use Rattle.origin_values.specs.Written.{origin_text, host_text}
+use Rattle.origin_values.specs.declared.host.Host.{Host}
+use Rattle.origin_values.specs.declared.origin.Origin.{Origin}
+use Rattle.origin_values.specs.declared.protos.Protos.{Protos}
+use Rattle.route_events.specs.Authority.{protocols}
+use Rattle.route_events.specs.declared.action.Action.{Action}
+use Rattle.route_events.specs.declared.action.Action.TheVariants.{OpenTo, SendOn, Refuse, Lost}
+use Rattle.route_events.specs.declared.route.Route.{Route}
+use Rattle.route_events.specs.declared.route.Route.TheVariants.{Direct}
+
+abbrev pub route_text : Route → List ℕ
+route_text Direct = codes "direct"
+
+-- a name before others, where it is to be there
+abbrev pub if_in : Bool → List ℕ → List (List ℕ) → List (List ℕ)
+if_in true name names = name ∷ names
+if_in false name names = names
+
+-- the names of the protocols in a set, by ALPN (RFC 7301 6), in the order h2, h3, http/1.1
+abbrev pub proto_names : Protos → List (List ℕ)
+proto_names protos = if_in protos.h2 (codes "h2") (if_in protos.h3 (codes "h3") (if_in protos.http11 (codes "http/1.1") []))
+
+-- joined by commas
+abbrev pub protos_text : Protos → List ℕ
+protos_text protos = join_with_byte 44 (proto_names protos)
+
+-- the attempt, its origin, the route and its protocols, and the host and port that it goes to
+abbrev pub open_text : ℕ → Origin → Route → List ℕ
+open_text attempt origin route =
+    codes "open " ++ decimal attempt ++ codes " " ++ origin_text origin ++ codes " " ++ route_text route ++ codes " "
+    ++ protos_text (protocols origin.scheme route) ++ codes " " ++ host_text origin.host ++ codes " " ++ decimal origin.port
+
+abbrev pub send_text : ℕ → ℕ → List ℕ
+send_text request conn = codes "send " ++ decimal request ++ codes " on " ++ decimal conn
+
+-- the stream of HTTP/2, where there is one
+abbrev pub stream_text : Option ℕ → List ℕ
+stream_text None = []
+stream_text (Some stream) = codes " stream " ++ decimal stream
+
+-- a host, and a colon and the port unless it is 443 (RFC 7838 5)
+abbrev pub authority_text : Host → ℕ → List ℕ
+authority_text host port = host_text host ++ (if port == 443 then [] else codes ":" ++ decimal port)
+
+-- the alternative that is told to the server, where there is one
+abbrev pub alt_used_text : Option (Host × ℕ) → List ℕ
+alt_used_text None = []
+alt_used_text (Some used) = codes " alt-used " ++ authority_text used.0 used.1
+
+abbrev pub action_text : Action → List ℕ
+action_text (OpenTo attempt origin route) = open_text attempt origin route
+action_text (SendOn request conn stream alt_used) = send_text request conn ++ stream_text stream ++ alt_used_text alt_used
+action_text (Refuse request) = codes "refuse " ++ decimal request
+action_text (Lost request) = codes "lost " ++ decimal request

@@ -1,0 +1,36 @@
+-- The lines of events, each without a newline. A further kind is one case of `fact_text`, or of `event_text`.
+use Rattle.std.specs.Prelude.{ℕ, List, [], ◌∷◌, ◌++◌, codes, decimal}
+use Rattle.origin_values.specs.Written.{origin_text, addr_text}
+use Rattle.origin_values.specs.declared.address.Addr.{Addr}
+use Rattle.origin_values.specs.declared.proto.Proto.{Proto}
+use Rattle.origin_values.specs.declared.proto.Proto.TheVariants.{H2, H3, Http11, Other}
+use Rattle.coalescing.specs.NamesWritten.{names_text}
+use Rattle.coalescing.specs.declared.cert_name.CertName.{CertName}
+use Rattle.route_events.specs.declared.fact.Fact.{Fact}
+use Rattle.route_events.specs.declared.fact.Fact.TheVariants.{Request, Opened, Failed, Closed, Tick}
+use Rattle.event_lines.specs.declared.event.Event.{Event}
+use Rattle.event_lines.specs.declared.event.Event.TheVariants.{Client, Skip}
+
+-- the name of a protocol by ALPN (RFC 7301 6), or `other`
+abbrev pub proto_text : Proto → List ℕ
+proto_text H2 = codes "h2"
+proto_text H3 = codes "h3"
+proto_text Http11 = codes "http/1.1"
+proto_text Other = codes "other"
+
+abbrev pub opened_text : ℕ → Proto → Addr → ℕ → List CertName → List ℕ
+opened_text attempt proto addr port names =
+    codes "opened " ++ decimal attempt ++ codes " " ++ proto_text proto ++ codes " " ++ addr_text addr ++ codes " "
+    ++ decimal port ++ codes " " ++ names_text names
+
+abbrev pub fact_text : Fact → List ℕ
+fact_text (Request number origin) = codes "request " ++ decimal number ++ codes " " ++ origin_text origin
+fact_text (Opened attempt proto addr port names) = opened_text attempt proto addr port names
+fact_text (Failed attempt) = codes "failed " ++ decimal attempt
+fact_text (Closed conn) = codes "closed " ++ decimal conn
+fact_text Tick = codes "tick"
+
+-- the moment and what happened; a skipped line is empty
+abbrev pub event_text : ℕ → Event → List ℕ
+event_text now (Client fact) = decimal now ++ codes " " ++ fact_text fact
+event_text now Skip = []

@@ -1,0 +1,60 @@
+-- Reading each kind of field.
+use Rattle.std.specs.Prelude.{ℕ, ◌-◌, ◌^◌, Bool, true, false, not, ◌&&◌, nat_eq, nat_le, nat_lt, List, [], ◌∷◌, length, codes, Option, Some, None, Result, Ok, Err, if◌then◌else◌}
+use Rattle.std.specs.Option.{option_and_then}
+use Rattle.std.specs.List.{list_all}
+use Rattle.std.specs.Char.{is_ascii_digit}
+use Rattle.std.specs.Cmp.Lexicographic.{pointwise}
+use Rattle.std.specs.Str.Parse.{digits_value}
+use Rattle.origin_values.specs.OriginReading.{read_origin}
+use Rattle.origin_values.specs.declared.origin.Origin.{Origin}
+use Rattle.origin_values.specs.declared.proto.Proto.{Proto}
+use Rattle.origin_values.specs.declared.proto.Proto.TheVariants.{H2, H3, Http11, Other}
+use Rattle.coalescing.specs.NamesReading.{read_names}
+use Rattle.coalescing.specs.declared.cert_name.CertName.{CertName}
+
+-- the greatest moment or number of a request, the greatest number of an attempt or a connection, and the greatest port
+abbrev pub most_short : ℕ
+most_short = 4294967295
+
+abbrev pub most_long : ℕ
+most_long = 18446744073709551615
+
+abbrev pub most_port : ℕ
+most_port = 65535
+
+-- digits, at least one, and no zero before others
+abbrev pub is_number : List ℕ → Bool
+is_number [] = false
+is_number (b ∷ []) = is_ascii_digit b
+is_number (b ∷ c ∷ bs) = not (nat_eq b 48) && list_all is_ascii_digit (b ∷ c ∷ bs)
+
+-- a value that is at most so great
+abbrev pub number_within : ℕ → ℕ → Option ℕ
+number_within most n = if nat_le n most then Some n else None
+
+abbrev pub number_of : ℕ → List ℕ → Option ℕ
+number_of most text = if is_number text then number_within most (digits_value 10 text) else None
+
+abbrev pub unless_zero : ℕ → Option ℕ
+unless_zero n = if nat_lt 0 n then Some n else None
+
+abbrev pub port_of : List ℕ → Option ℕ
+port_of text = option_and_then unless_zero (number_of most_port text)
+
+abbrev pub proto_of : List ℕ → Option Proto
+proto_of text =
+    if pointwise nat_eq text (codes "h2") then Some H2
+    else (if pointwise nat_eq text (codes "h3") then Some H3
+    else (if pointwise nat_eq text (codes "http/1.1") then Some Http11
+    else (if pointwise nat_eq text (codes "other") then Some Other else None)))
+
+-- the value, whatever the refusal
+abbrev pub value_of : {A E : Type 0} → Result A E → Option A
+value_of (Ok value) = Some value
+value_of (Err refusal) = None
+
+abbrev pub origin_of : List ℕ → Option Origin
+origin_of text = value_of (read_origin text)
+
+abbrev pub names_of : List ℕ → Option (List CertName)
+names_of text = value_of (read_names text)

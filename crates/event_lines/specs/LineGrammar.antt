@@ -1,0 +1,113 @@
+-- The lines, each beside the moment and the event that it says, by how the line splits. A further kind is one case of
+-- `SpellsKind`.
+use Rattle.std.specs.Prelude.{◌≡◌, ◌≢◌, ◌⊎◌, ℕ, ◌≤◌, List, [], ◌∷◌, ◌++◌, codes}
+use Rattle.std.specs.Str.Parse.{IsNumeral, digits_value}
+use Rattle.origin_values.specs.HostGrammar.{SpellsAddr}
+use Rattle.origin_values.specs.OriginGrammar.{SpellsOrigin}
+use Rattle.origin_values.specs.declared.address.Addr.{Addr}
+use Rattle.origin_values.specs.declared.origin.Origin.{Origin}
+use Rattle.origin_values.specs.declared.proto.Proto.{Proto}
+use Rattle.coalescing.specs.NamesGrammar.{SpellsNames}
+use Rattle.coalescing.specs.declared.cert_name.CertName.{CertName}
+use Rattle.route_events.specs.declared.fact.Fact.TheVariants.{Request, Opened, Failed, Closed, Tick}
+use Rattle.event_lines.specs.EventTexts.{proto_text}
+use Rattle.event_lines.specs.Fields.{most_short, most_long, most_port}
+use Rattle.event_lines.specs.declared.event.Event.{Event}
+use Rattle.event_lines.specs.declared.event.Event.TheVariants.{Client, Skip}
+
+-- no zero stands before further digits
+abbrev pub NoLeadingZero : List ℕ → Type 0
+NoLeadingZero [] = Unit {0}
+NoLeadingZero (b ∷ []) = Unit {0}
+NoLeadingZero (b ∷ c ∷ bs) = b ≢ 48
+
+-- decimal digits without a leading zero, of a value that is at most so great
+pub record SpellsNumber (most : ℕ) (text : List ℕ) (n : ℕ) : Type 0 where
+  pub numeral : IsNumeral 10 text
+  pub no_zero : NoLeadingZero text
+  pub value : n ≡ digits_value 10 text
+  pub within : n ≤ most
+
+-- a port is 1 to 65535
+pub record SpellsPort (text : List ℕ) (port : ℕ) : Type 0 where
+  pub number : SpellsNumber most_port text port
+  pub some : 1 ≤ port
+
+abbrev pub SpellsProto : List ℕ → Proto → Type 0
+SpellsProto text proto = text ≡ proto_text proto
+
+abbrev pub NoSpace : List ℕ → Type 0
+NoSpace [] = Unit {0}
+NoSpace (b ∷ bs) = (b ≢ 32) × NoSpace bs
+
+-- no word has a space
+abbrev pub AreApart : List (List ℕ) → Type 0
+AreApart [] = Unit {0}
+AreApart (word ∷ words) = NoSpace word × AreApart words
+
+-- words, each behind exactly one space
+abbrev pub spaced : List (List ℕ) → List ℕ
+spaced [] = []
+spaced (word ∷ words) = 32 ∷ (word ++ spaced words)
+
+-- `request Q ORIGIN`
+pub record SpellsRequest (text : List ℕ) (number : ℕ) (origin : Origin) : Type 0 where
+  pub number_text : List ℕ
+  pub origin_text : List ℕ
+  pub spelled : text ≡ spaced (codes "request" ∷ number_text ∷ origin_text ∷ [])
+  pub apart : AreApart (number_text ∷ origin_text ∷ [])
+  pub of_number : SpellsNumber most_short number_text number
+  pub of_origin : SpellsOrigin origin_text origin
+
+-- `opened A PROTO ADDR PORT NAMES`
+pub record SpellsOpened (text : List ℕ) (attempt : ℕ) (proto : Proto) (addr : Addr) (port : ℕ) (names : List CertName) : Type 0 where
+  pub attempt_text : List ℕ
+  pub protocol_text : List ℕ
+  pub addr_text : List ℕ
+  pub port_text : List ℕ
+  pub names_text : List ℕ
+  pub spelled : text ≡ spaced (codes "opened" ∷ attempt_text ∷ protocol_text ∷ addr_text ∷ port_text ∷ names_text ∷ [])
+  pub apart : AreApart (attempt_text ∷ protocol_text ∷ addr_text ∷ port_text ∷ names_text ∷ [])
+  pub of_attempt : SpellsNumber most_long attempt_text attempt
+  pub of_proto : SpellsProto protocol_text proto
+  pub of_addr : SpellsAddr addr_text addr
+  pub of_port : SpellsPort port_text port
+  pub of_names : SpellsNames names_text names
+
+-- a kind and the number of an attempt or a connection: `failed A`, `closed C`
+pub record SpellsNumbered (kind text : List ℕ) (number : ℕ) : Type 0 where
+  pub number_text : List ℕ
+  pub spelled : text ≡ spaced (kind ∷ number_text ∷ [])
+  pub apart : NoSpace number_text
+  pub of_number : SpellsNumber most_long number_text number
+
+-- what follows the moment: a space, the kind, and the kind's fields
+abbrev pub SpellsKind : List ℕ → Event → Type 0
+SpellsKind text (Client (Request number origin)) = SpellsRequest text number origin
+SpellsKind text (Client (Opened attempt proto addr port names)) = SpellsOpened text attempt proto addr port names
+SpellsKind text (Client (Failed attempt)) = SpellsNumbered (codes "failed") text attempt
+SpellsKind text (Client (Closed conn)) = SpellsNumbered (codes "closed") text conn
+SpellsKind text (Client Tick) = text ≡ spaced (codes "tick" ∷ [])
+SpellsKind text Skip = ⊥
+
+-- an empty line, or one that begins with `#`
+abbrev pub IsSkipped : List ℕ → Type 0
+IsSkipped [] = Unit {0}
+IsSkipped (b ∷ bs) = b ≡ 35
+
+-- a skipped line says the moment 0 and no event
+pub record SpellsSkip (line : List ℕ) (now : ℕ) (event : Event) : Type 0 where
+  pub skipped : IsSkipped line
+  pub at : now ≡ 0
+  pub nothing : event ≡ Skip
+
+-- a moment, and an event behind it
+pub record SpellsEvent (line : List ℕ) (now : ℕ) (event : Event) : Type 0 where
+  pub moment : List ℕ
+  pub text : List ℕ
+  pub spelled : line ≡ moment ++ text
+  pub of_moment : SpellsNumber most_short moment now
+  pub of_kind : SpellsKind text event
+
+abbrev pub SpellsLine : List ℕ → ℕ → Event → Type 0
+SpellsLine line now event = SpellsSkip line now event ⊎ SpellsEvent line now event

@@ -1,0 +1,167 @@
+-- The table of refusals of lines, each with its place, by how the line splits. A further kind is one case of `kinds`.
+use Rattle.std.specs.Prelude.{◌≡◌, ◌≢◌, ◌⊎◌, ℕ, ◌+◌, List, [], ◌∷◌, ◌++◌, length, codes}
+use Rattle.origin_values.specs.HostGrammar.{SpellsAddr}
+use Rattle.origin_values.specs.OriginGrammar.{SpellsOrigin}
+use Rattle.origin_values.specs.declared.address.Addr.{Addr}
+use Rattle.origin_values.specs.declared.origin.Origin.{Origin}
+use Rattle.origin_values.specs.declared.proto.Proto.{Proto}
+use Rattle.coalescing.specs.NamesGrammar.{SpellsNames}
+use Rattle.coalescing.specs.declared.cert_name.CertName.{CertName}
+use Rattle.event_lines.specs.Fields.{most_short, most_long}
+use Rattle.event_lines.specs.LineGrammar.{SpellsNumber, SpellsPort, SpellsProto, NoSpace, IsSkipped, SpellsLine}
+use Rattle.event_lines.specs.declared.event.Event.{Event}
+use Rattle.event_lines.specs.declared.refusal.LineRefusal.{LineRefusal}
+use Rattle.event_lines.specs.declared.refusal.LineRefusal.TheVariants.{BadMoment, UnknownKind, BadField, ExtraField}
+
+-- the forms of fields
+pub data Form : Type 0 where
+  OfNumber : (most : ℕ) → Form
+  OfPort : Form
+  OfProto : Form
+  OfAddr : Form
+  OfOrigin : Form
+  OfNames : Form
+
+-- a word is of a form
+abbrev pub HasForm : Form → List ℕ → Type 0
+HasForm (OfNumber most) word = (n : ℕ) × SpellsNumber most word n
+HasForm OfPort word = (port : ℕ) × SpellsPort word port
+HasForm OfProto word = (proto : Proto) × SpellsProto word proto
+HasForm OfAddr word = (addr : Addr) × SpellsAddr word addr
+HasForm OfOrigin word = (origin : Origin) × SpellsOrigin word origin
+HasForm OfNames word = (names : List CertName) × SpellsNames word names
+
+-- the kinds, each with the forms of its fields in order
+pub record Kind : Type 0 where
+  pub name : List ℕ
+  pub forms : List Form
+
+abbrev pub kinds : List Kind
+kinds =
+    record { name = codes "request"; forms = OfNumber most_short ∷ OfOrigin ∷ [] }
+    ∷ record { name = codes "opened"; forms = OfNumber most_long ∷ OfProto ∷ OfAddr ∷ OfPort ∷ OfNames ∷ [] }
+    ∷ record { name = codes "failed"; forms = OfNumber most_long ∷ [] }
+    ∷ record { name = codes "closed"; forms = OfNumber most_long ∷ [] }
+    ∷ record { name = codes "tick"; forms = [] }
+    ∷ []
+
+-- the first kind of this name has fields of these forms
+abbrev pub IsAmong : List Kind → List ℕ → List Form → Type 0
+IsAmong [] name forms = ⊥
+IsAmong (kind ∷ more) name forms = ((name ≡ kind.name) × (forms ≡ kind.forms)) ⊎ ((name ≢ kind.name) × IsAmong more name forms)
+
+-- no kind has this name
+abbrev pub IsNone : List Kind → List ℕ → Type 0
+IsNone [] name = Unit {0}
+IsNone (kind ∷ more) name = (name ≢ kind.name) × IsNone more name
+
+-- nothing, or what begins with a space
+abbrev pub EndsWord : List ℕ → Type 0
+EndsWord [] = Unit {0}
+EndsWord (b ∷ bs) = b ≡ 32
+
+-- a word in front, as long as can be, which may be empty
+pub record IsFront (text word behind : List ℕ) : Type 0 where
+  pub spelled : text ≡ word ++ behind
+  pub apart : NoSpace word
+  pub end : EndsWord behind
+
+-- a space, and the word behind it
+pub record IsNext (text word behind : List ℕ) : Type 0 where
+  pub spelled : text ≡ 32 ∷ (word ++ behind)
+  pub apart : NoSpace word
+  pub end : EndsWord behind
+
+-- the field is missing: the place is the line's length
+pub record IsMissing (begin : ℕ) (text : List ℕ) (place : ℕ) (reason : LineRefusal) : Type 0 where
+  pub nothing : text ≡ []
+  pub at : place ≡ begin
+  pub why : reason ≡ BadField
+
+-- the next word isn't of the form: the place is its first byte
+pub record IsBad (form : Form) (begin : ℕ) (text : List ℕ) (place : ℕ) (reason : LineRefusal) : Type 0 where
+  pub word : List ℕ
+  pub behind : List ℕ
+  pub next : IsNext text word behind
+  pub bad : ¬ (HasForm form word)
+  pub at : place ≡ begin + 1
+  pub why : reason ≡ BadField
+
+-- a field follows the last one: the place is the first byte behind the space before it
+pub record IsExtra (begin : ℕ) (text : List ℕ) (place : ℕ) (reason : LineRefusal) : Type 0 where
+  pub more : text ≢ []
+  pub at : place ≡ begin + 1
+  pub why : reason ≡ ExtraField
+
+-- the next word is of the form, and what holds of what stands behind it
+pub record IsBehind (form : Form) (begin : ℕ) (text : List ℕ) (Holds : ℕ → List ℕ → Type 0) : Type 0 where
+  pub word : List ℕ
+  pub behind : List ℕ
+  pub next : IsNext text word behind
+  pub good : HasForm form word
+  pub later : Holds (begin + 1 + length word) behind
+
+-- fields of these forms are to stand in a text that begins at this place, and from left to right this is the first
+-- that is wrong
+abbrev pub FieldsRefusedAt : List Form → ℕ → List ℕ → ℕ → LineRefusal → Type 0
+FieldsRefusedAt [] begin text place reason = IsExtra begin text place reason
+FieldsRefusedAt (form ∷ forms) begin text place reason =
+    IsMissing begin text place reason
+    ⊎ (IsBad form begin text place reason
+    ⊎ IsBehind form begin text (λ next rest. FieldsRefusedAt forms next rest place reason))
+
+-- what stands before the first space, or the whole line, is no moment
+pub record IsBadMoment (line : List ℕ) (place : ℕ) : Type 0 where
+  pub word : List ℕ
+  pub behind : List ℕ
+  pub front : IsFront line word behind
+  pub not_skipped : ¬ (IsSkipped line)
+  pub bad : (now : ℕ) → ¬ (SpellsNumber most_short word now)
+  pub at : place ≡ 0
+
+-- the kind is missing: the place is the line's length
+pub record IsNoKind (line : List ℕ) (place : ℕ) : Type 0 where
+  pub now : ℕ
+  pub of_moment : SpellsNumber most_short line now
+  pub at : place ≡ length line
+
+-- the kind is none of those that there are: the place is its first byte
+pub record IsOtherKind (line : List ℕ) (place : ℕ) : Type 0 where
+  pub moment : List ℕ
+  pub text : List ℕ
+  pub name : List ℕ
+  pub behind : List ℕ
+  pub now : ℕ
+  pub spelled : line ≡ moment ++ text
+  pub of_moment : SpellsNumber most_short moment now
+  pub next : IsNext text name behind
+  pub none : IsNone kinds name
+  pub at : place ≡ length moment + 1
+
+-- a field of the kind is wrong, or one too many
+pub record IsWrongField (line : List ℕ) (place : ℕ) (reason : LineRefusal) : Type 0 where
+  pub moment : List ℕ
+  pub text : List ℕ
+  pub name : List ℕ
+  pub behind : List ℕ
+  pub forms : List Form
+  pub now : ℕ
+  pub spelled : line ≡ moment ++ text
+  pub of_moment : SpellsNumber most_short moment now
+  pub next : IsNext text name behind
+  pub among : IsAmong kinds name forms
+  pub fields : FieldsRefusedAt forms (length moment + 1 + length name) behind place reason
+
+-- the table
+abbrev pub LineRefusedAt : List ℕ → ℕ → LineRefusal → Type 0
+LineRefusedAt line place BadMoment = IsBadMoment line place
+LineRefusedAt line place UnknownKind = IsNoKind line place ⊎ IsOtherKind line place
+LineRefusedAt line place BadField = IsWrongField line place BadField
+LineRefusedAt line place ExtraField = IsWrongField line place ExtraField
+
+-- exactly one event or exactly one refusal, and never both
+pub record OneLine (line : List ℕ) : Type 0 where
+  pub some : ((now : ℕ) × (event : Event) × SpellsLine line now event) ⊎ ((place : ℕ) × (reason : LineRefusal) × LineRefusedAt line place reason)
+  pub one_event : (m n : ℕ) (a b : Event) → SpellsLine line m a → SpellsLine line n b → (m ≡ n) × (a ≡ b)
+  pub one_refusal : (p q : ℕ) (r s : LineRefusal) → LineRefusedAt line p r → LineRefusedAt line q s → (p ≡ q) × (r ≡ s)
+  pub not_both : (now : ℕ) (event : Event) (place : ℕ) (reason : LineRefusal) → SpellsLine line now event → LineRefusedAt line place reason → ⊥

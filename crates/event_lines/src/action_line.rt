@@ -1,0 +1,123 @@
+ghost use Rattle.std.specs.Prelude.{◌≡◌, ◌++◌, IfOk, OnOk};
+ghost use Rattle.event_lines.specs.ActionTexts.{action_text, stream_text, alt_used_text, authority_text, open_text, send_text};
+
+use crate::pieces::{append, append_number};
+use crate::protocols::{protocols, protos_text, route_text};
+use alt_base::{Bytes, ListOf, NoMemory};
+use origin_values::{Host, Origin};
+use route_events::{Action, Route};
+use std::alloc::Global;
+
+/// The port that isn't written where an alternative is told to the server (RFC 7838 5): that of https.
+const PLAIN_PORT: u16 = 443;
+
+/// The line of an action, without a newline: `open A ORIGIN KIND PROTOS HOST PORT` with the protocols in the order h2,
+/// h3, http/1.1; `send Q on C`, with ` stream S` on HTTP/2 and ` alt-used X` where an alternative is told to the server
+/// (RFC 7838 5); `refuse Q`; `lost Q`. Numbers are decimal.
+pub fn write_action(alloc: Global, action: &Action) -> Result<Bytes, NoMemory>
+    ensures { IfOk result (λ line. line ≡ action_text action.now) }
+{
+    let mut line = Vec::new(alloc);
+    match action {
+        Action::OpenTo {
+            attempt,
+            origin,
+            route,
+        } => append_open(&mut line, alloc, *attempt, origin, *route)?,
+        Action::SendOn {
+            request,
+            conn,
+            stream,
+            alt_used,
+        } => {
+            append_send(&mut line, alloc, *request, *conn)?;
+            append_stream(&mut line, alloc, *stream)?;
+            append_alt_used(&mut line, alloc, alt_used)?;
+        }
+        Action::Refuse { request } => {
+            append(&mut line, b"refuse ")?;
+            append_number(&mut line, alloc, u64::from(*request))?;
+        }
+        Action::Lost { request } => {
+            append(&mut line, b"lost ")?;
+            append_number(&mut line, alloc, u64::from(*request))?;
+        }
+    }
+    Ok(ListOf::from_vec(line))
+}
+
+fn append_open(
+    line: &mut Vec<u8>,
+    alloc: Global,
+    attempt: u64,
+    origin: &Origin,
+    route: Route,
+) -> Result<(), NoMemory>
+    ensures { OnOk result (line.new.items ≡ line.old.items ++ open_text attempt origin.now route) }
+{
+    append(line, b"open ")?;
+    append_number(line, alloc, attempt)?;
+    append(line, b" ")?;
+    append(line, origin.write(alloc)?.as_slice())?;
+    append(line, b" ")?;
+    append(line, route_text(route))?;
+    append(line, b" ")?;
+    append(line, protos_text(protocols(origin.scheme, route)))?;
+    append(line, b" ")?;
+    append(line, origin.host.write(alloc)?.as_slice())?;
+    append(line, b" ")?;
+    append_number(line, alloc, u64::from(origin.port))
+}
+
+fn append_send(line: &mut Vec<u8>, alloc: Global, request: u32, conn: u64) -> Result<(), NoMemory>
+    ensures { OnOk result (line.new.items ≡ line.old.items ++ send_text request conn) }
+{
+    append(line, b"send ")?;
+    append_number(line, alloc, u64::from(request))?;
+    append(line, b" on ")?;
+    append_number(line, alloc, conn)
+}
+
+fn append_stream(line: &mut Vec<u8>, alloc: Global, stream: Option<u32>) -> Result<(), NoMemory>
+    ensures { OnOk result (line.new.items ≡ line.old.items ++ stream_text stream) }
+{
+    match stream {
+        None => Ok(()),
+        Some(number) => {
+            append(line, b" stream ")?;
+            append_number(line, alloc, u64::from(number))
+        }
+    }
+}
+
+fn append_alt_used(
+    line: &mut Vec<u8>,
+    alloc: Global,
+    alt_used: &Option<(Host, u16)>,
+) -> Result<(), NoMemory>
+    ensures { OnOk result (line.new.items ≡ line.old.items ++ alt_used_text alt_used.now) }
+{
+    match alt_used {
+        None => Ok(()),
+        Some((host, port)) => {
+            append(line, b" alt-used ")?;
+            append_authority(line, alloc, host, *port)
+        }
+    }
+}
+
+fn append_authority(
+    line: &mut Vec<u8>,
+    alloc: Global,
+    host: &Host,
+    port: u16,
+) -> Result<(), NoMemory>
+    ensures { OnOk result (line.new.items ≡ line.old.items ++ authority_text host.now port) }
+{
+    append(line, host.write(alloc)?.as_slice())?;
+    if port != PLAIN_PORT {
+        append(line, b":")?;
+        append_number(line, alloc, u64::from(port))?;
+    }
+    Ok(())
+}

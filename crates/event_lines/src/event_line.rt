@@ -1,0 +1,92 @@
+ghost use Rattle.std.specs.Prelude.{◌≡◌, ◌++◌, codes, decimal, IfOk, OnOk};
+ghost use Rattle.event_lines.specs.EventTexts.{proto_text, opened_text, fact_text, event_text};
+
+use crate::Event;
+use crate::pieces::{append, append_number};
+use alt_base::{Bytes, ListOf, Moment, NoMemory};
+use coalescing::{CertNames, write_names};
+use origin_values::{Addr, Proto};
+use route_events::Fact;
+use std::alloc::Global;
+
+/// The line of an event, without a newline: the moment, a space, and what happened, as `read_line` reads it. The line
+/// of a skipped one is empty, whatever the moment.
+pub fn write_event(alloc: Global, now: Moment, event: &Event) -> Result<Bytes, NoMemory>
+    ensures { IfOk result (λ line. line ≡ event_text now.0 event.now) }
+{
+    let mut line = Vec::new(alloc);
+    match event {
+        Event::Client(fact) => {
+            append_number(&mut line, alloc, u64::from(now.0))?;
+            append(&mut line, b" ")?;
+            append_fact(&mut line, alloc, fact)?;
+        }
+        Event::Skip => {}
+    }
+    Ok(ListOf::from_vec(line))
+}
+
+fn append_fact(line: &mut Vec<u8>, alloc: Global, fact: &Fact) -> Result<(), NoMemory>
+    ensures { OnOk result (line.new.items ≡ line.old.items ++ fact_text fact.now) }
+{
+    match fact {
+        Fact::Request { number, origin } => {
+            append(line, b"request ")?;
+            append_number(line, alloc, u64::from(*number))?;
+            append(line, b" ")?;
+            append(line, origin.write(alloc)?.as_slice())
+        }
+        Fact::Opened {
+            attempt,
+            proto,
+            addr,
+            port,
+            names,
+        } => append_opened(line, alloc, *attempt, *proto, addr, *port, names),
+        Fact::Failed { attempt } => {
+            append(line, b"failed ")?;
+            append_number(line, alloc, *attempt)
+        }
+        Fact::Closed { conn } => {
+            append(line, b"closed ")?;
+            append_number(line, alloc, *conn)
+        }
+        Fact::Tick => append(line, b"tick"),
+    }
+}
+
+fn append_opened(
+    line: &mut Vec<u8>,
+    alloc: Global,
+    attempt: u64,
+    proto: Proto,
+    addr: &Addr,
+    port: u16,
+    names: &CertNames,
+) -> Result<(), NoMemory>
+    ensures { OnOk result (line.new.items
+        ≡ line.old.items ++ opened_text attempt proto addr.now port names.now) }
+{
+    append(line, b"opened ")?;
+    append_number(line, alloc, attempt)?;
+    append(line, b" ")?;
+    append(line, proto_text(proto))?;
+    append(line, b" ")?;
+    append(line, addr.write(alloc)?.as_slice())?;
+    append(line, b" ")?;
+    append_number(line, alloc, u64::from(port))?;
+    append(line, b" ")?;
+    append(line, write_names(alloc, names)?.as_slice())
+}
+
+// The name of a protocol.
+fn proto_text(proto: Proto) -> &'static [u8]
+    ensures { result.now ≡ proto_text proto }
+{
+    match proto {
+        Proto::H2 => b"h2",
+        Proto::H3 => b"h3",
+        Proto::Http11 => b"http/1.1",
+        Proto::Other => b"other",
+    }
+}

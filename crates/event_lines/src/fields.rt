@@ -1,0 +1,62 @@
+ghost use Rattle.std.specs.Prelude.{◌≡◌, ◌<◌, ◌^◌, length, IfOk};
+ghost use Rattle.event_lines.specs.Fields.{port_of, proto_of, origin_of, names_of};
+
+use crate::number::number_of;
+use alt_base::{NoMemory, Refused};
+use coalescing::{CertNames, parse_names};
+use origin_values::{Origin, Proto};
+use std::alloc::Global;
+
+/// The greatest port.
+const MOST_PORT: u64 = 65535;
+
+// A port, from 1 to 65535.
+pub(crate) fn port_of(text: &[u8]) -> Option<u16>
+    ensures { result ≡ port_of text.now }
+{
+    match number_of(text, MOST_PORT) {
+        Some(number) if number > 0 => Some(number as u16),
+        _ => None,
+    }
+}
+
+// The protocol of a connection.
+pub(crate) fn proto_of(text: &[u8]) -> Option<Proto>
+    ensures { result ≡ proto_of text.now }
+{
+    if text == b"h2".as_slice() {
+        Some(Proto::H2)
+    } else if text == b"h3".as_slice() {
+        Some(Proto::H3)
+    } else if text == b"http/1.1".as_slice() {
+        Some(Proto::Http11)
+    } else if text == b"other".as_slice() {
+        Some(Proto::Other)
+    } else {
+        None
+    }
+}
+
+// The origin that a text spells, if it spells one.
+pub(crate) fn origin_of(alloc: Global, text: &[u8]) -> Result<Option<Origin>, NoMemory>
+    requires { length text.now < 2 ^ 32 }
+    ensures { IfOk result (λ origin. origin ≡ origin_of text.now) }
+{
+    match Origin::parse(alloc, text) {
+        Ok(origin) => Ok(Some(origin)),
+        Err(Refused::NoMemory) => Err(NoMemory),
+        Err(Refused::At { .. }) => Ok(None),
+    }
+}
+
+// The names of a certificate that a text spells, if it spells any.
+pub(crate) fn names_of(alloc: Global, text: &[u8]) -> Result<Option<CertNames>, NoMemory>
+    requires { length text.now < 2 ^ 32 }
+    ensures { IfOk result (λ names. names ≡ names_of text.now) }
+{
+    match parse_names(alloc, text) {
+        Ok(names) => Ok(Some(names)),
+        Err(Refused::NoMemory) => Err(NoMemory),
+        Err(Refused::At { .. }) => Ok(None),
+    }
+}

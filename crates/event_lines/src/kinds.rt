@@ -1,0 +1,78 @@
+ghost use Rattle.std.specs.Prelude.{◌≡◌, codes, nat_eq};
+ghost use Rattle.event_lines.specs.LineReading.{request_fields, opened_fields, failed_fields, closed_fields, kind_reading};
+ghost use Rattle.event_lines.specs.Reads.{Reads, MayRead};
+
+use crate::line_reader::{LineReader, Part};
+use crate::{Event, LineRefusal};
+use alt_base::{At, Refused};
+use route_events::Fact;
+use std::alloc::Global;
+
+// What the fields of this kind say.
+pub(crate) fn read_kind(
+    alloc: Global,
+    kind: &Part,
+    reader: &mut LineReader,
+) -> Result<Event, Refused<LineRefusal>>
+    ensures { MayRead result reader.new (kind_reading kind.now reader.old) }
+{
+    if kind.text == b"request".as_slice() {
+        read_request(alloc, reader)
+    } else if kind.text == b"opened".as_slice() {
+        read_opened(alloc, reader)
+    } else if kind.text == b"failed".as_slice() {
+        Ok(read_failed(reader)?)
+    } else if kind.text == b"closed".as_slice() {
+        Ok(read_closed(reader)?)
+    } else if kind.text == b"tick".as_slice() {
+        Ok(Event::Client(Fact::Tick))
+    } else {
+        Err(Refused::At {
+            place: kind.place,
+            reason: LineRefusal::UnknownKind,
+        })
+    }
+}
+
+// `request Q ORIGIN`
+fn read_request(alloc: Global, reader: &mut LineReader) -> Result<Event, Refused<LineRefusal>>
+    ensures { MayRead result reader.new (request_fields reader.old) }
+{
+    let number = reader.short_number()?;
+    let origin = reader.origin(alloc)?;
+    Ok(Event::Client(Fact::Request { number, origin }))
+}
+
+// `opened A PROTO ADDR PORT NAMES`
+fn read_opened(alloc: Global, reader: &mut LineReader) -> Result<Event, Refused<LineRefusal>>
+    ensures { MayRead result reader.new (opened_fields reader.old) }
+{
+    let attempt = reader.long_number()?;
+    let proto = reader.proto()?;
+    let addr = reader.addr()?;
+    let port = reader.port()?;
+    let names = reader.names(alloc)?;
+    Ok(Event::Client(Fact::Opened {
+        attempt,
+        proto,
+        addr,
+        port,
+        names,
+    }))
+}
+
+// `failed A`
+fn read_failed(reader: &mut LineReader) -> Result<Event, At<LineRefusal>>
+    ensures { Reads result reader.new (failed_fields reader.old) }
+{
+    let attempt = reader.long_number()?;
+    Ok(Event::Client(Fact::Failed { attempt }))
+}
+
+// `closed C`
+fn read_closed(reader: &mut LineReader) -> Result<Event, At<LineRefusal>>
+    ensures { Reads result reader.new (closed_fields reader.old) }
+{
+    let conn = reader.long_number()?;
+    Ok(Event::Client(Fact::Closed { conn }))
+}

@@ -1,0 +1,210 @@
+ghost use Rattle.std.specs.Prelude.{◌≡◌, ◌+◌, ◌≤◌, ◌<◌, ◌^◌, length};
+ghost use Rattle.alt_base.specs.declared.refusal.At.{At};
+ghost use Rattle.event_lines.specs.declared.refusal.LineRefusal.{LineRefusal};
+ghost use Rattle.event_lines.specs.Parts.{Part, before_space, first_word, behind_word, value_or, next_word, field};
+ghost use Rattle.event_lines.specs.Fields.{most_short, most_long, number_of, port_of, proto_of, origin_of, names_of};
+ghost use Rattle.event_lines.specs.LineReading.{moment_reading, end_reading};
+ghost use Rattle.event_lines.specs.Reads.{Reads, MayRead};
+ghost use Rattle.origin_values.specs.HostReading.{read_addr};
+
+use crate::LineRefusal;
+use crate::fields::{names_of, origin_of, port_of, proto_of};
+use crate::number::number_of;
+use alt_base::{At, Refused};
+use coalescing::CertNames;
+use origin_values::{Addr, Origin, Proto};
+use std::alloc::Global;
+use std::marker::Model;
+
+/// The greatest moment, and the greatest number of a request.
+const MOST_SHORT: u64 = 4_294_967_295;
+/// The greatest number of an attempt or a connection.
+const MOST_LONG: u64 = 18_446_744_073_709_551_615;
+
+/// A part of a line, and the place where it begins.
+#[derive(Debug, Drop)]
+pub(crate) struct Part<'a> {
+    pub text: &'a [u8],
+    pub place: u32,
+}
+
+impl<'a> Model for Part<'a> {
+    ghost use Rattle.std.specs.Prelude.{◌+◌, ◌<◌, ◌^◌, length};
+    ghost use Rattle.event_lines.specs.Parts.{Part};
+
+    ghost Value = { Part };
+
+    ghost view = { λ part. record { text = part.text.now; place = part.place } };
+
+    ghost invariant = { λ part. part.place + length part.text.now < 2 ^ 32 };
+}
+
+/// Reads a line from left to right. To a contract it is what is left of the line, and the place where that begins.
+#[derive(Debug, Drop)]
+pub(crate) struct LineReader<'a> {
+    rest: &'a [u8],
+    place: u32,
+}
+
+impl<'a> Model for LineReader<'a> {
+    ghost use Rattle.std.specs.Prelude.{◌+◌, ◌<◌, ◌^◌, length};
+    ghost use Rattle.event_lines.specs.Parts.{Part};
+
+    ghost Value = { Part };
+
+    ghost view = { λ reader. record { text = reader.rest.now; place = reader.place } };
+
+    ghost invariant = { λ reader. reader.place + length reader.rest.now < 2 ^ 32 };
+}
+
+impl<'a> LineReader<'a> {
+    pub(crate) fn new(line: &'a [u8]) -> LineReader<'a>
+        requires { length line.now < 2 ^ 32 }
+        ensures { result ≡ record { text = line.now; place = 0 } }
+    {
+        LineReader {
+            rest: line,
+            place: 0,
+        }
+    }
+
+    // The word in front: what stands before the first space or the end.
+    fn first_word(&mut self) -> Part<'a>
+        ensures word { result ≡ first_word self.old }
+        ensures behind { self.new ≡ behind_word self.old }
+    {
+        let place = self.place;
+        let count = word_length(self.rest);
+        let text = &self.rest[..count];
+        self.rest = &self.rest[count..];
+        self.place += count as u32;
+        Part { text, place }
+    }
+
+    // The next word, behind a space. Where none is left, it is refused for this reason, at the line's length.
+    pub(crate) fn next_word(&mut self, missing: LineRefusal) -> Result<Part<'a>, At<LineRefusal>>
+        ensures { Reads result self.new (next_word missing self.old) }
+    {
+        match self.rest {
+            [] => Err(At {
+                place: self.place,
+                reason: missing,
+            }),
+            [_, text @ ..] => {
+                self.rest = text;
+                self.place += 1;
+                Ok(self.first_word())
+            }
+        }
+    }
+
+    // The moment in front.
+    pub(crate) fn moment(&mut self) -> Result<u32, At<LineRefusal>>
+        ensures { Reads result self.new (moment_reading self.old) }
+    {
+        let word = self.first_word();
+        match number_of(word.text, MOST_SHORT) {
+            Some(moment) => Ok(moment as u32),
+            None => Err(At {
+                place: word.place,
+                reason: LineRefusal::BadMoment,
+            }),
+        }
+    }
+
+    // A number of 32 bits.
+    pub(crate) fn short_number(&mut self) -> Result<u32, At<LineRefusal>>
+        ensures { Reads result self.new (field (number_of most_short) self.old) }
+    {
+        let word = self.next_word(LineRefusal::BadField)?;
+        match number_of(word.text, MOST_SHORT) {
+            Some(number) => Ok(number as u32),
+            None => Err(bad_field(word.place)),
+        }
+    }
+
+    // A number of 64 bits.
+    pub(crate) fn long_number(&mut self) -> Result<u64, At<LineRefusal>>
+        ensures { Reads result self.new (field (number_of most_long) self.old) }
+    {
+        let word = self.next_word(LineRefusal::BadField)?;
+        number_of(word.text, MOST_LONG).ok_or(bad_field(word.place))
+    }
+
+    pub(crate) fn port(&mut self) -> Result<u16, At<LineRefusal>>
+        ensures { Reads result self.new (field port_of self.old) }
+    {
+        let word = self.next_word(LineRefusal::BadField)?;
+        port_of(word.text).ok_or(bad_field(word.place))
+    }
+
+    pub(crate) fn proto(&mut self) -> Result<Proto, At<LineRefusal>>
+        ensures { Reads result self.new (field proto_of self.old) }
+    {
+        let word = self.next_word(LineRefusal::BadField)?;
+        proto_of(word.text).ok_or(bad_field(word.place))
+    }
+
+    pub(crate) fn addr(&mut self) -> Result<Addr, At<LineRefusal>>
+        ensures { Reads result self.new (field read_addr self.old) }
+    {
+        let word = self.next_word(LineRefusal::BadField)?;
+        Addr::parse(word.text).ok_or(bad_field(word.place))
+    }
+
+    pub(crate) fn origin(&mut self, alloc: Global) -> Result<Origin, Refused<LineRefusal>>
+        ensures { MayRead result self.new (field origin_of self.old) }
+    {
+        let word = self.next_word(LineRefusal::BadField)?;
+        match origin_of(alloc, word.text)? {
+            Some(origin) => Ok(origin),
+            None => Err(Refused::from(bad_field(word.place))),
+        }
+    }
+
+    pub(crate) fn names(&mut self, alloc: Global) -> Result<CertNames, Refused<LineRefusal>>
+        ensures { MayRead result self.new (field names_of self.old) }
+    {
+        let word = self.next_word(LineRefusal::BadField)?;
+        match names_of(alloc, word.text)? {
+            Some(names) => Ok(names),
+            None => Err(Refused::from(bad_field(word.place))),
+        }
+    }
+
+    // Nothing is left.
+    pub(crate) fn end(&self) -> Result<(), At<LineRefusal>>
+        ensures { result ≡ end_reading self.now }
+    {
+        if self.rest.is_empty() {
+            Ok(())
+        } else {
+            Err(At {
+                place: self.place + 1,
+                reason: LineRefusal::ExtraField,
+            })
+        }
+    }
+}
+
+fn bad_field(place: u32) -> At<LineRefusal>
+    ensures { result ≡ record { place = place; reason = LineRefusal.BadField } }
+{
+    At {
+        place,
+        reason: LineRefusal::BadField,
+    }
+}
+
+// How many bytes stand before the first space, or the end.
+fn word_length(text: &[u8]) -> usize
+    ensures value { result ≡ length (before_space text.now) }
+    ensures within { result ≤ length text.now }
+{
+    for (i, b) in text.iter().enumerate() {
+        if *b == b' ' {
+            return i;
+        }
+    }
+    text.len()
+}

@@ -1,0 +1,50 @@
+ghost use Rattle.std.specs.Prelude.{◌≡◌, ◌≤◌, length};
+ghost use Rattle.event_lines.specs.LineReading.{is_skipped, line_reading};
+ghost use Rattle.event_lines.specs.Reads.{IsRead};
+
+use crate::kinds::read_kind;
+use crate::line_reader::LineReader;
+use crate::{Event, LineRefusal};
+use alt_base::{Moment, Refused};
+use std::alloc::Global;
+
+/// The moment and the event that a line says, without its newline. An empty line and one that begins with `#` are
+/// skipped, at the moment 0. Else the line is a moment, a kind and the kind's fields, with one space before each but
+/// the first:
+///
+/// - `request Q ORIGIN`: request Q arrives for an origin;
+/// - `opened A PROTO ADDR PORT NAMES`: attempt A ended with a connection, of protocol `h2`, `h3`, `http/1.1` or `other`,
+///   to an address without brackets and a port, with a certificate of these names, `-` for none;
+/// - `failed A`: attempt A ended without a connection;
+/// - `closed C`: connection C ended;
+/// - `tick`: nothing but that time has come so far.
+///
+/// A number has no leading zero. Moments and numbers of requests have 32 bits, those of attempts and connections 64.
+///
+/// Refused, with the fields tried from left to right: `BadMoment` at 0 where what stands before the first space is no
+/// moment; `UnknownKind` at the kind, or at the length where it is missing; `BadField` at the first field that isn't of
+/// its form, or at the length where it is missing; `ExtraField` behind the space that follows the last field.
+pub fn read_line(alloc: Global, line: &[u8]) -> Result<(Moment, Event), Refused<LineRefusal>>
+    requires { length line.now ≤ 65536 }
+    ensures reading { IsRead result (line_reading line.now) }
+{
+    if is_skipped(line) {
+        return Ok((Moment(0), Event::Skip));
+    }
+    let mut reader = LineReader::new(line);
+    let moment = reader.moment()?;
+    let kind = reader.next_word(LineRefusal::UnknownKind)?;
+    let event = read_kind(alloc, &kind, &mut reader)?;
+    reader.end()?;
+    Ok((Moment(moment), event))
+}
+
+// Whether a line is empty or begins with `#`.
+fn is_skipped(line: &[u8]) -> bool
+    ensures { result ≡ is_skipped line.now }
+{
+    match line {
+        [] => true,
+        [first, ..] => *first == b'#',
+    }
+}
