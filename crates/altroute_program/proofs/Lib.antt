@@ -1,0 +1,7 @@
+mod Cutting
+mod Outcomes
+mod Stays
+mod Lines
+mod Pieces
+mod OneTurn
+mod Complete

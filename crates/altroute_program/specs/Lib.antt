@@ -1,0 +1,7 @@
+pub mod Statuses
+pub mod Commands
+pub mod Lines
+pub mod Texts
+pub mod Outcome
+pub mod Ends
+pub mod Reached

@@ -1,0 +1,97 @@
+-- How far a run has come, and what a line, a byte, a piece or the end makes of it. Private contracts cite this.
+use Rattle.std.specs.Prelude.{◌≡◌, ◌⊎◌, ℕ, ◌≤◌, ◌<◌, Bool, true, false, List, [], ◌∷◌, ◌++◌, length, take, Option, Some, None, Result, Ok, Err}
+use Rattle.alt_base.specs.Devices.{Grew}
+use Rattle.alt_base.specs.Faults.{Rose}
+use Rattle.route_events.specs.Journal.{Journal}
+use Rattle.router_core.specs.StandsFor.{StandsFor}
+use Rattle.router_core.specs.declared.router.Router.{Router}
+use Rattle.altroute_program.specs.declared.state.Replay.{Replay}
+use Rattle.altroute_program.specs.declared.status.Status.{Status}
+use Rattle.altroute_program.specs.declared.status.Status.TheVariants.{Done, Refused, Usage, ReadFault, WriteFault, NoMemory, TooLong}
+use Rattle.altroute_program.specs.declared.answers.Answer.{Answer}
+use Rattle.altroute_program.specs.declared.answers.Answer.TheVariants as answer
+use Rattle.altroute_program.specs.Lines.{cut_lines}
+use Rattle.altroute_program.specs.Outcome.{Progress, Going, Stopped, AtRefused, AtLongLine, AtLongInput, act_all, start, outcome, text_of, stop_of}
+use Rattle.altroute_program.specs.Ends.{Seen, Moves, NoFault, ReplayEnds}
+
+-- what an answer to a line says of the progress that the line makes
+abbrev pub AnswersSo : Answer → List ℕ → ℕ → Progress → Type 0
+AnswersSo (answer.Goes router more) text number p = (j : Journal) × (p ≡ Going (text ++ more.items) j number) × StandsFor router j
+AnswersSo (answer.Refused more) text number p = p ≡ Stopped (text ++ more.items) AtRefused
+
+-- what a line makes of the text and the progress
+abbrev pub LineEnds : Result Router Status → Option (List ℕ) → Option (List ℕ) → List ℕ → ℕ → Progress → Type 0
+LineEnds (Ok router) old new text number p = (more : List ℕ) × (j : Journal) × (p ≡ Going (text ++ more) j number) × StandsFor router j × Grew old new more
+LineEnds (Err Refused) old new text number p = (more : List ℕ) × (p ≡ Stopped (text ++ more) AtRefused) × Grew old new more
+LineEnds (Err WriteFault) old new text number p = (more : List ℕ) × (n : ℕ) × (text_of p ≡ text ++ more) × Grew old new (take n more)
+LineEnds (Err NoMemory) old new text number p = new ≡ old
+LineEnds (Err Done) old new text number p = ⊥
+LineEnds (Err Usage) old new text number p = ⊥
+LineEnds (Err ReadFault) old new text number p = ⊥
+LineEnds (Err TooLong) old new text number p = ⊥
+
+-- the state stands for the bytes taken so far
+pub record Reached (replay : Replay) (bytes text : List ℕ) (j : Journal) : Type 0 where
+  pub progress : act_all start (cut_lines bytes).whole ≡ Going text j replay.lines
+  pub stands : StandsFor replay.router j
+  pub line : replay.line ≡ (cut_lines bytes).rest
+  pub taken : replay.taken ≡ length bytes
+  pub short : length replay.line ≤ 65536
+
+-- a stop that is no refusal
+abbrev pub IsTooLong : Progress → List ℕ → Type 0
+IsTooLong p text = (p ≡ Stopped text AtLongLine) ⊎ (p ≡ Stopped text AtLongInput)
+
+-- what one more byte, or one more piece, makes of the text; bytes are those with it
+abbrev pub BytesEnd : Result (Unit {0}) Status → Replay → Option (List ℕ) → Option (List ℕ) → List ℕ → List ℕ → Type 0
+BytesEnd (Ok done) replay old new bytes text = (more : List ℕ) × (k : Journal) × Reached replay bytes (text ++ more) k × Grew old new more
+BytesEnd (Err Refused) replay old new bytes text = (more : List ℕ) × (outcome bytes false ≡ Stopped (text ++ more) AtRefused) × Grew old new more
+BytesEnd (Err TooLong) replay old new bytes text = (more : List ℕ) × IsTooLong (outcome bytes false) (text ++ more) × Grew old new more
+BytesEnd (Err WriteFault) replay old new bytes text = (more : List ℕ) × (n : ℕ) × (text_of (outcome bytes false) ≡ text ++ more) × Grew old new (take n more)
+BytesEnd (Err NoMemory) replay old new bytes text = (more : List ℕ) × (n : ℕ) × (text_of (outcome bytes false) ≡ text ++ more) × Grew old new (take n more)
+BytesEnd (Err Done) replay old new bytes text = ⊥
+BytesEnd (Err Usage) replay old new bytes text = ⊥
+BytesEnd (Err ReadFault) replay old new bytes text = ⊥
+
+-- what the end of the input makes of the text
+abbrev pub FinishEnds : Status → Option (List ℕ) → Option (List ℕ) → List ℕ → List ℕ → Type 0
+FinishEnds Done old new bytes text = (more : List ℕ) × (stop_of (outcome bytes true) ≡ None) × (text_of (outcome bytes true) ≡ text ++ more) × Grew old new more
+FinishEnds Refused old new bytes text = (more : List ℕ) × (stop_of (outcome bytes true) ≡ Some AtRefused) × (text_of (outcome bytes true) ≡ text ++ more) × Grew old new more
+FinishEnds Usage old new bytes text = ⊥
+FinishEnds ReadFault old new bytes text = ⊥
+FinishEnds WriteFault old new bytes text = (more : List ℕ) × (n : ℕ) × (text_of (outcome bytes true) ≡ text ++ more) × Grew old new (take n more)
+FinishEnds NoMemory old new bytes text = (more : List ℕ) × (text_of (outcome bytes true) ≡ text ++ more) × (new ≡ old)
+FinishEnds TooLong old new bytes text = ⊥
+
+-- the status after the last line
+abbrev pub status_after : Result Router Status → Status
+status_after (Ok router) = Done
+status_after (Err status) = status
+
+-- the count of the sink's faults rose where a write failed, and stands as it was else
+abbrev pub SinkCause : Status → ℕ → ℕ → Type 0
+SinkCause WriteFault before now = Rose before now
+SinkCause Done before now = now ≡ before
+SinkCause Refused before now = now ≡ before
+SinkCause Usage before now = now ≡ before
+SinkCause ReadFault before now = now ≡ before
+SinkCause NoMemory before now = now ≡ before
+SinkCause TooLong before now = now ≡ before
+
+abbrev pub ResultCause : {T : Type 0} → Result T Status → ℕ → ℕ → Type 0
+ResultCause (Ok x) before now = now ≡ before
+ResultCause (Err status) before now = SinkCause status before now
+
+-- from a start, these bytes were taken and this text was written, without a fault
+pub record Runs (replay : Replay) (first now : Seen) (bytes text : List ℕ) (j : Journal) : Type 0 where
+  pub reached : Reached replay bytes text j
+  pub moves : Moves first now bytes text
+  pub no_fault : NoFault first now
+
+abbrev pub HasRun : Replay → Seen → Seen → Type 0
+HasRun replay first now = (bytes : List ℕ) × (text : List ℕ) × (j : Journal) × Runs replay first now bytes text j
+
+-- a turn that goes on, or the end
+abbrev pub TurnEnds : Option Status → Replay → Seen → Seen → Type 0
+TurnEnds None replay first now = HasRun replay first now
+TurnEnds (Some status) replay first now = ReplayEnds status first now

@@ -1,0 +1,26 @@
+ghost use Rattle.std.specs.Prelude.{◌≡◌};
+ghost use Rattle.altroute_program.specs.Commands.{command_of};
+
+use alt_base::Words;
+
+/// What the words of the command line ask for.
+#[derive(Clone, Copy, Debug, PartialEq, Eq)]
+pub enum Command {
+    Replay,
+}
+
+/// The command that some words are, if they are one.
+pub fn command_of(words: &Words) -> Option<Command>
+    ensures { result ≡ command_of words.now }
+{
+    match words.as_slice() {
+        [word] => {
+            if word.as_slice() == b"replay".as_slice() {
+                Some(Command::Replay)
+            } else {
+                None
+            }
+        }
+        _ => None,
+    }
+}

@@ -1,0 +1,16 @@
+ghost use Rattle.std.specs.Prelude.{◌≤◌};
+
+use alt_base::Bytes;
+use router_core::Router;
+
+/// The state between two bytes: the router, the bytes of the line so far, the number of the lines that are ended, and
+/// the number of bytes taken.
+#[derive(Drop)]
+pub(crate) struct Replay {
+    pub router: Router,
+    pub line: Bytes,
+    pub lines: u32,
+    pub taken: u32,
+    ghost fewer: { lines ≤ taken },
+    ghost bounded: { taken ≤ 67108864 },
+}
