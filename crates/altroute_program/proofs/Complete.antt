@@ -31,5 +31,6 @@ complete ReadFault old new ends = λ input told valid read write. absurd (read e
 complete WriteFault old new ends = λ input told valid read write. absurd (write ends.rose)
 complete NoMemory old new ends = λ input told valid read write. inr refl
 complete TooLong old new ends = λ input told valid read write. elim ends.1 [
-    inl s ↦ absurd (no_stop new input ends.0 new.left false _ refl (sym told ∙ s.moves.took) s.at_end s.stop valid)
-  | inr s ↦ absurd (no_stop new input ends.0 new.left false _ refl (sym told ∙ s.moves.took) s.at_end s.stop valid) ]
+  | inl s ↦ absurd (no_stop new input ends.0 new.left false _ refl (sym told ∙ s.moves.took) s.at_end s.stop valid)
+  | inr s ↦ absurd (no_stop new input ends.0 new.left false _ refl (sym told ∙ s.moves.took) s.at_end s.stop valid)
+]

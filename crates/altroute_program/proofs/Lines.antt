@@ -50,14 +50,18 @@ newline_error TooLong old new bytes text j before after r room ends = absurd end
 
 pub other_ok : (old new : Replay) (bytes text : List ℕ) (b : ℕ) (j : Journal) (told : Option (List ℕ)) → Reached old bytes text j → nat_eq b 10 ≡ false → length old.line < 65536 → new.router ≡ old.router → new.line ≡ old.line ++ b ∷ [] → new.lines ≡ old.lines → new.taken ≡ old.taken + 1 → BytesEnd (Ok tt) new told told (bytes ++ b ∷ []) text
 other_ok old new bytes text b j told r other room router line lines taken =
-    let cut = other_cut bytes b other in
-    ([], j, record {
-      progress = ap (λ (c : Cut). act_all start c.whole) cut ∙ r.progress ∙ rw (append-nil text, lines) refl;
-      stands = rw router r.stands;
-      line = line ∙ ap (λ xs. xs ++ b ∷ []) r.line ∙ sym (ap (λ (c : Cut). c.rest) cut);
-      taken = taken ∙ ap (λ n. n + 1) r.taken ∙ sym (length_push bytes b);
-      short = rw line (omega (arith, length_push old.line b));
-    }, grew_nothing told)
+    let cut = other_cut bytes b other in (
+      [],
+      j,
+      record {
+        progress = ap (λ (c : Cut). act_all start c.whole) cut ∙ r.progress ∙ rw (append-nil text, lines) refl;
+        stands = rw router r.stands;
+        line = line ∙ ap (λ xs. xs ++ b ∷ []) r.line ∙ sym (ap (λ (c : Cut). c.rest) cut);
+        taken = taken ∙ ap (λ n. n + 1) r.taken ∙ sym (length_push bytes b);
+        short = rw line (omega (arith, length_push old.line b));
+      },
+      grew_nothing told,
+    )
 
 pub full_ends : (old new : Replay) (bytes text : List ℕ) (b : ℕ) (j : Journal) (told : Option (List ℕ)) → Reached old bytes text j → old.taken ≡ 67108864 → BytesEnd (Err TooLong) new told told (bytes ++ b ∷ []) text
 full_ends old new bytes text b j told r full = ([], inr (full_outcome old bytes text j b r (sym r.taken ∙ full) ∙ ap (λ t. Stopped t AtLongInput) (sym (append-nil text))), grew_nothing told)
@@ -110,15 +114,19 @@ piece_error Refused new now rest text more before middle after grew ends =
 piece_error Usage new now rest text more before middle after grew ends = ends
 piece_error ReadFault new now rest text more before middle after grew ends = ends
 piece_error WriteFault new now rest text more before middle after grew ends =
-    let g = grows now rest false in
-    (more ++ (ends.0 ++ g.0), length more + min ends.1 (length ends.0),
-     g.1 ∙ ap (λ t. t ++ g.0) ends.2 ∙ append_assoc (text ++ more) ends.0 g.0 ∙ append_assoc text more (ends.0 ++ g.0),
-     subst (Grew before after) (part_of more ends.0 g.0 ends.1) (Grew-more before middle after more (take ends.1 ends.0) grew ends.3))
+    let g = grows now rest false in (
+      more ++ (ends.0 ++ g.0),
+      length more + min ends.1 (length ends.0),
+      g.1 ∙ ap (λ t. t ++ g.0) ends.2 ∙ append_assoc (text ++ more) ends.0 g.0 ∙ append_assoc text more (ends.0 ++ g.0),
+      subst (Grew before after) (part_of more ends.0 g.0 ends.1) (Grew-more before middle after more (take ends.1 ends.0) grew ends.3),
+    )
 piece_error NoMemory new now rest text more before middle after grew ends =
-    let g = grows now rest false in
-    (more ++ (ends.0 ++ g.0), length more + min ends.1 (length ends.0),
-     g.1 ∙ ap (λ t. t ++ g.0) ends.2 ∙ append_assoc (text ++ more) ends.0 g.0 ∙ append_assoc text more (ends.0 ++ g.0),
-     subst (Grew before after) (part_of more ends.0 g.0 ends.1) (Grew-more before middle after more (take ends.1 ends.0) grew ends.3))
+    let g = grows now rest false in (
+      more ++ (ends.0 ++ g.0),
+      length more + min ends.1 (length ends.0),
+      g.1 ∙ ap (λ t. t ++ g.0) ends.2 ∙ append_assoc (text ++ more) ends.0 g.0 ∙ append_assoc text more (ends.0 ++ g.0),
+      subst (Grew before after) (part_of more ends.0 g.0 ends.1) (Grew-more before middle after more (take ends.1 ends.0) grew ends.3),
+    )
 piece_error TooLong new now rest text more before middle after grew ends = (more ++ ends.0, too_long ends.1, Grew-more before middle after more ends.0 grew ends.2)
   where
     too_long : IsTooLong (outcome now false) ((text ++ more) ++ ends.0) → IsTooLong (outcome (now ++ rest) false) (text ++ (more ++ ends.0))

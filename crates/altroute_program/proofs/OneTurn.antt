@@ -88,7 +88,9 @@ finish_ends status replay first old new bytes text j runs ends cause took end at
 -- what a piece makes of a run
 pub piece_runs : (replay next : Replay) (first old new : Seen) (bytes piece text : List ℕ) (j : Journal) → Runs replay first old bytes text j → BytesEnd (Ok tt) next old.written new.written (bytes ++ piece) text → Took old.left new.left piece → new.read_faults ≡ old.read_faults → new.write_faults ≡ old.write_faults → HasRun next first new
 piece_runs replay next first old new bytes piece text j runs ends took same kept = (
-  bytes ++ piece, text ++ ends.0, ends.1,
+  bytes ++ piece,
+  text ++ ends.0,
+  ends.1,
   record {
     reached = ends.2;
     moves = record { took = Took-more first.left old.left new.left bytes piece runs.moves.took took; grew = Grew-more first.written old.written new.written text ends.0 runs.moves.grew ends.3 };
@@ -128,9 +130,13 @@ piece_ends status replay next first old new bytes piece text j runs ends cause t
       part = record { bytes = all; ended = false; most = length text + ends.1; at_end = tt; moves = record { took = all_took; grew = grew_part ends.0 ends.1 ends.3 ends.2 } };
       no_fault = no_fault cause;
     }
-    by_status TooLong ends cause = (all, elim ends.1 [
-        inl e ↦ inl (record { stop = ap stop_of e; at_end = tt; moves = record { took = all_took; grew = grew_more ends.0 ends.2 (ap text_of e) }; no_fault = no_fault cause })
-      | inr e ↦ inr (record { stop = ap stop_of e; at_end = tt; moves = record { took = all_took; grew = grew_more ends.0 ends.2 (ap text_of e) }; no_fault = no_fault cause }) ])
+    by_status TooLong ends cause = (
+      all,
+      elim ends.1 [
+        | inl e ↦ inl (record { stop = ap stop_of e; at_end = tt; moves = record { took = all_took; grew = grew_more ends.0 ends.2 (ap text_of e) }; no_fault = no_fault cause })
+        | inr e ↦ inr (record { stop = ap stop_of e; at_end = tt; moves = record { took = all_took; grew = grew_more ends.0 ends.2 (ap text_of e) }; no_fault = no_fault cause })
+      ],
+    )
 
 -- a read that failed
 pub read_fault : (replay : Replay) (first old new : Seen) (bytes text : List ℕ) (j : Journal) → Runs replay first old bytes text j → replay.taken ≤ 67108864 → new.left ≡ old.left → new.written ≡ old.written → new.write_faults ≡ old.write_faults → Rose old.read_faults new.read_faults → ReplayEnds ReadFault first new

@@ -31,10 +31,12 @@ pub comes_more : (first old new : Replay) (piece : List ℕ) (i b : ℕ) (before
 comes_more first old new piece i b before middle after within is comes ends = λ bytes text j reached.
     let so_far = comes bytes text j reached in
     let one = ends (bytes ++ take i piece) (text ++ so_far.0) so_far.1 so_far.2 in
-    let same : (bytes ++ take i piece) ++ b ∷ [] ≡ bytes ++ take (i + 1) piece = append_assoc bytes (take i piece) (b ∷ []) ∙ ap (λ n. bytes ++ (take i piece ++ n ∷ [])) is ∙ ap (λ xs. bytes ++ xs) (sym (take_one piece i 0 within)) in
-    (so_far.0 ++ one.0, one.1,
-     subst (λ bs. Reached new bs (text ++ (so_far.0 ++ one.0)) one.1) same (subst (λ t. Reached new ((bytes ++ take i piece) ++ b ∷ []) t one.1) (append_assoc text so_far.0 one.0) one.2),
-     Grew-more before middle after so_far.0 one.0 so_far.3 one.3)
+    let same : (bytes ++ take i piece) ++ b ∷ [] ≡ bytes ++ take (i + 1) piece = append_assoc bytes (take i piece) (b ∷ []) ∙ ap (λ n. bytes ++ (take i piece ++ n ∷ [])) is ∙ ap (λ xs. bytes ++ xs) (sym (take_one piece i 0 within)) in (
+      so_far.0 ++ one.0,
+      one.1,
+      subst (λ bs. Reached new bs (text ++ (so_far.0 ++ one.0)) one.1) same (subst (λ t. Reached new ((bytes ++ take i piece) ++ b ∷ []) t one.1) (append_assoc text so_far.0 one.0) one.2),
+      Grew-more before middle after so_far.0 one.0 so_far.3 one.3,
+    )
 
 -- a byte at which it stops
 pub comes_stop : (status : Status) (first old new : Replay) (piece : List ℕ) (i b : ℕ) (before middle after : Option (List ℕ)) → i < length piece → b ≡ get_or piece i 0 → Comes first old (take i piece) before middle
@@ -44,7 +46,7 @@ comes_stop status first old new piece i b before middle after within is comes en
     let so_far = comes bytes text j reached in
     let one = ends (bytes ++ take i piece) (text ++ so_far.0) so_far.1 so_far.2 in
     let same : ((bytes ++ take i piece) ++ b ∷ []) ++ drop (i + 1) piece ≡ bytes ++ piece =
-      ap (λ xs. xs ++ drop (i + 1) piece) (append_assoc bytes (take i piece) (b ∷ []) ∙ ap (λ n. bytes ++ (take i piece ++ n ∷ [])) is ∙ ap (λ xs. bytes ++ xs) (sym (take_one piece i 0 within)))
-      ∙ append_assoc bytes (take (i + 1) piece) (drop (i + 1) piece) ∙ ap (λ xs. bytes ++ xs) (take-append-drop (i + 1) piece) in
+    ap (λ xs. xs ++ drop (i + 1) piece) (append_assoc bytes (take i piece) (b ∷ []) ∙ ap (λ n. bytes ++ (take i piece ++ n ∷ [])) is ∙ ap (λ xs. bytes ++ xs) (sym (take_one piece i 0 within)))
+    ∙ append_assoc bytes (take (i + 1) piece) (drop (i + 1) piece) ∙ ap (λ xs. bytes ++ xs) (take-append-drop (i + 1) piece) in
     subst (λ bs. BytesEnd (Err status) new before after bs text) same
     (piece_error status new ((bytes ++ take i piece) ++ b ∷ []) (drop (i + 1) piece) text so_far.0 before middle after so_far.3 one)

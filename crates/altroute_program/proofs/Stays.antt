@@ -24,7 +24,7 @@ after_stop : (c : Cut) (tail : List ℕ) (ended : Bool) (text rest : List ℕ) (
 after_stop c tail ended text rest why n stop =
     let lines = all_lines c tail ended in
     let all : act_all start (lines_of (cut_from c tail) ended) ≡ Stopped text why =
-      ap (act_all start) lines.1 ∙ act_all-append start c.whole lines.0 ∙ ap (λ p. act_all p lines.0) stop ∙ stopped_stays text why lines.0 in
+    ap (act_all start) lines.1 ∙ act_all-append start c.whole lines.0 ∙ ap (λ p. act_all p lines.0) stop ∙ stopped_stays text why lines.0 in
     ap (λ p. limited p rest n) all
 
 long_empty : (xs : List ℕ) → 65536 < length xs → is_empty_bytes xs ≡ false
@@ -103,10 +103,11 @@ within_grows bytes more ended fits =
     let c = cut_lines bytes in
     let d = cut_from c past.0 in
     let lines = all_lines c past.0 past.1 in
-    let grown = all_grows (act_all start c.whole) lines.0 in
-    (grown.0,
-     ap text_of past.2 ∙ limited_text (act_all start (lines_of d past.1)) d.rest (length (bytes ++ more)) ∙ ap (λ ls. text_of (act_all start ls)) lines.1 ∙ ap text_of (act_all-append start c.whole lines.0) ∙ grown.1
-       ∙ ap (λ t. t ++ grown.0) (sym (ap text_of (outcome_within bytes false fits) ∙ limited_text (act_all start c.whole) c.rest (length bytes))))
+    let grown = all_grows (act_all start c.whole) lines.0 in (
+      grown.0,
+      ap text_of past.2 ∙ limited_text (act_all start (lines_of d past.1)) d.rest (length (bytes ++ more)) ∙ ap (λ ls. text_of (act_all start ls)) lines.1 ∙ ap text_of (act_all-append start c.whole lines.0) ∙ grown.1
+          ∙ ap (λ t. t ++ grown.0) (sym (ap text_of (outcome_within bytes false fits) ∙ limited_text (act_all start c.whole) c.rest (length bytes))),
+    )
 
 pub grows : (bytes more : List ℕ) (ended : Bool) → (extra : List ℕ) × (text_of (outcome (bytes ++ more) ended) ≡ text_of (outcome bytes false) ++ extra)
 grows bytes more ended = by_test (nat_lt 67108864 (length bytes)) refl
@@ -137,7 +138,7 @@ within_stays bytes more t ended why fits stop = by_progress (act_all start (cut_
     by_progress (Stopped text w) is =
         let past = outcome_past bytes more ended fits in
         past.2 ∙ after_stop (cut_lines bytes) past.0 past.1 text (cut_from (cut_lines bytes) past.0).rest w (length (bytes ++ more)) is
-          ∙ sym (outcome_within bytes false fits ∙ ap (λ p. limited p (cut_lines bytes).rest (length bytes)) is) ∙ stop
+        ∙ sym (outcome_within bytes false fits ∙ ap (λ p. limited p (cut_lines bytes).rest (length bytes)) is) ∙ stop
     by_progress (Going text j k) is = stop_tests bytes more text t ended why j k fits is (nat_lt 65536 (length (cut_lines bytes).rest)) (nat_lt 67108864 (length bytes)) refl refl (sym (outcome_within bytes false fits ∙ ap (λ p. limited p (cut_lines bytes).rest (length bytes)) is) ∙ stop)
 
 pub stays : (bytes more t : List ℕ) (ended : Bool) (why : Stop) → outcome bytes false ≡ Stopped t why → outcome (bytes ++ more) ended ≡ Stopped t why

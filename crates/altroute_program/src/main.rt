@@ -44,3 +44,6 @@ fn main(rt: HostRuntime) -> ExitCode {
     let mut sink = StdSink::new(rt.stdout());
     ExitCode::from(run(alloc, &words, &mut source, &mut sink).number())
 }
+
+#[cfg(test)]
+mod tests;

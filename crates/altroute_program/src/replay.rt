@@ -134,13 +134,7 @@ pub(crate) fn finish<K: Sink>(alloc: Global, replay: &mut Replay, sink: &mut K) 
     }
     let router = mem::replace(&mut replay.router, Router::new(alloc));
     let number = replay.lines + 1;
-    status_after(act_on_line(
-        alloc,
-        router,
-        number,
-        replay.line.as_slice(),
-        sink,
-    ))
+    status_after(act_on_line(alloc, router, number, replay.line.as_slice(), sink))
 }
 
 // The status after the last line.

@@ -14,11 +14,12 @@ returns-in-Err-clause-ends g c =
     comes_stop c.in-Err.status c.args.replay.now c.loop-byte.replay _ c.args.piece.now c.loop-byte.byte-index _ _ _ _ c.loop-byte-test.true refl c.loop-byte.invariant.0 c.in-Err.ensures.ends
 
 pub loop-byte-preserved : goal.loop-byte-preserved
-loop-byte-preserved g c =
-    (comes_more c.args.replay.now c.loop-byte.replay _ c.args.piece.now c.loop-byte.byte-index _ _ _ _ c.loop-byte-test.true refl c.loop-byte.invariant.0 c.in-Ok.ensures.ends,
-     c.in-Ok.ensures.cause ∙ c.loop-byte.invariant.1,
-     omega (arith, c.in-Ok.ensures.counts, c.loop-byte.invariant.2),
-     c.in-Ok.ensures.short)
+loop-byte-preserved g c = (
+  comes_more c.args.replay.now c.loop-byte.replay _ c.args.piece.now c.loop-byte.byte-index _ _ _ _ c.loop-byte-test.true refl c.loop-byte.invariant.0 c.in-Ok.ensures.ends,
+  c.in-Ok.ensures.cause ∙ c.loop-byte.invariant.1,
+  omega (arith, c.in-Ok.ensures.counts, c.loop-byte.invariant.2),
+  c.in-Ok.ensures.short,
+)
 
 pub returns-clause-ends : goal.returns-clause-ends
 returns-clause-ends g c =

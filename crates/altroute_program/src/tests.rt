@@ -1,0 +1,126 @@
+use super::*;
+use alt_base::{Bytes, Calls, MemorySink, MemorySource, Text};
+use std::test::Fail;
+
+fn bytes_of(alloc: Global, bytes: &[u8]) -> Result<Bytes, Fail> {
+    Ok(ListOf::from_vec(Vec::from_slice(alloc, bytes)?))
+}
+
+fn words(alloc: Global, all: &[&[u8]]) -> Result<Words, Fail> {
+    let mut words: Words = ListOf::new(alloc);
+    for word in all {
+        let text: Text = bytes_of(alloc, *word)?;
+        words.push(text)?;
+    }
+    Ok(words)
+}
+
+fn calls(alloc: Global, numbers: &[u32]) -> Result<Calls, Fail> {
+    Ok(ListOf::from_vec(Vec::from_slice(alloc, numbers)?))
+}
+
+/// What a run gives: its status's number, and what it wrote.
+#[derive(Drop)]
+struct Gave {
+    status: u8,
+    written: Vec<u8>,
+}
+
+fn replayed(
+    alloc: Global,
+    input: Bytes,
+    failing_reads: &[u32],
+    failing_writes: &[u32],
+) -> Result<Gave, Fail> {
+    let mut source = MemorySource::new(input, calls(alloc, failing_reads)?);
+    let mut sink = MemorySink::new(alloc, 100_000, calls(alloc, failing_writes)?)?;
+    let status = run(alloc, &words(alloc, &[b"replay"])?, &mut source, &mut sink);
+    Ok(Gave {
+        status: status.number(),
+        written: Vec::from_slice(alloc, sink.bytes())?,
+    })
+}
+
+#[test]
+fn histories(rt: HostRuntime) -> Result<(), Fail> {
+    let alloc = rt.alloc();
+    let rows: [(&[u8], &[u8], u8); 7] = [
+        (b"", b"", 0),
+        (
+            b"0 request 1 https://a.example\n",
+            b"open 1 https://a.example direct h2,http/1.1 a.example 443\n",
+            0,
+        ),
+        // The last line may lack its newline, and a skipped line counts.
+        (
+            b"# a note\n\n0 request 1 https://a.example\n0 jump",
+            b"open 1 https://a.example direct h2,http/1.1 a.example 443\nrefused 4 line 2 at 2\n",
+            1,
+        ),
+        (
+            b"0 request 1 https://a.example\n0 request 1 https://b.example\n",
+            b"open 1 https://a.example direct h2,http/1.1 a.example 443\nrefused 2 step 2 last 1\n",
+            1,
+        ),
+        (
+            b"0 request 1 https://a.example\n1 failed 1\n",
+            b"open 1 https://a.example direct h2,http/1.1 a.example 443\nrefuse 1\n",
+            0,
+        ),
+        (b"5 tick\n4 tick\n", b"refused 2 step 1 last 5\n", 1),
+        (b"0 closed 9", b"refused 1 step 4\n", 1),
+    ];
+    for (input, output, status) in rows {
+        let gave = replayed(alloc, bytes_of(alloc, input)?, &[], &[])?;
+        assert_eq!(rt; gave.status, status);
+        assert_eq!(rt; gave.written.as_slice(), output);
+    }
+    Ok(())
+}
+
+#[test]
+fn devices_that_fail(rt: HostRuntime) -> Result<(), Fail> {
+    let alloc = rt.alloc();
+    let input: &[u8] = b"0 request 1 https://a.example\n0 request 2 https://b.ex";
+    let opened: &[u8] = b"open 1 https://a.example direct h2,http/1.1 a.example 443\n";
+
+    let read = replayed(alloc, bytes_of(alloc, input)?, &[2], &[])?;
+    assert_eq!(rt; read.status, 3);
+    assert_eq!(rt; read.written.as_slice(), opened);
+
+    let written = replayed(alloc, bytes_of(alloc, input)?, &[], &[1])?;
+    assert_eq!(rt; written.status, 4);
+    assert_eq!(rt; written.written.len(), 0);
+    Ok(())
+}
+
+#[test]
+fn lines_that_are_long(rt: HostRuntime) -> Result<(), Fail> {
+    let alloc = rt.alloc();
+    let mut longest = Vec::new(alloc);
+    longest.extend_from_slice(b"0 tick\n#")?;
+    for _ in 0..65_535 {
+        longest.push(b'x')?;
+    }
+    let mut longer = Vec::from_slice(alloc, longest.as_slice())?;
+    longer.push(b'x')?;
+    let fits = replayed(alloc, ListOf::from_vec(longest), &[], &[])?;
+    assert_eq!(rt; fits.status, 0);
+    let past = replayed(alloc, ListOf::from_vec(longer), &[], &[])?;
+    assert_eq!(rt; past.status, 6);
+    assert_eq!(rt; past.written.len(), 0);
+    Ok(())
+}
+
+#[test]
+fn words_that_are_no_command(rt: HostRuntime) -> Result<(), Fail> {
+    let alloc = rt.alloc();
+    let mut source = MemorySource::new(bytes_of(alloc, b"0 tick\n")?, calls(alloc, &[1])?);
+    let mut sink = MemorySink::new(alloc, 10, calls(alloc, &[])?)?;
+    let none = words(alloc, &[])?;
+    assert_eq!(rt; run(alloc, &none, &mut source, &mut sink), Status::Usage);
+    let two = words(alloc, &[b"replay", b"replay"])?;
+    assert_eq!(rt; run(alloc, &two, &mut source, &mut sink), Status::Usage);
+    assert_eq!(rt; sink.bytes().len(), 0);
+    Ok(())
+}
