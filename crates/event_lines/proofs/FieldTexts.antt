@@ -1,20 +1,17 @@
 -- The reading of each field against its grammar.
-use Rattle.std.proofs.Common.{◌≡◌, ℕ, Bool, true, false, cond, nat_eq, List, [], ◌∷◌, Option, None, Some, Result, Ok, Err, refl, ap, sym, ◌∙◌, subst}
+use Rattle.std.proofs.Common.{◌≡◌, ℕ, Bool, true, false, cond, nat_eq, List, Option, None, Some, Result, Ok, Err, refl, ap, sym, ◌∙◌}
 use Rattle.std.specs.Cmp.Lexicographic.{pointwise, same_text}
-use Rattle.alt_base.specs.declared.refusal.At.{At}
 use Rattle.origin_values.specs.HostReading.{read_addr}
 use Rattle.origin_values.specs.OriginReading.{read_origin}
 use Rattle.origin_values.specs.OriginGrammar.{SpellsOrigin}
 use Rattle.origin_values.specs.declared.origin.Origin.{Origin}
 use Rattle.origin_values.specs.declared.proto.Proto.{Proto}
 use Rattle.origin_values.specs.declared.proto.Proto.TheVariants.{H2, H3, Http11, Other}
-use Rattle.origin_values.specs.declared.refusal.OriginRefusal.{OriginRefusal}
 use Rattle.origin_values.proofs.Addresses.{read_addr_complete, read_addr_sound}
 use Rattle.origin_values.proofs.Origins.{origin_sound, origin_complete}
 use Rattle.coalescing.specs.NamesReading.{read_names}
 use Rattle.coalescing.specs.NamesGrammar.{SpellsNames}
 use Rattle.coalescing.specs.declared.cert_name.CertName.{CertName}
-use Rattle.coalescing.specs.declared.refusal.CertRefusal.{CertRefusal}
 use Rattle.coalescing.proofs.NamesLemmas.{names_read, names_spelled}
 use Rattle.event_lines.specs.EventTexts.{proto_text}
 use Rattle.event_lines.specs.Fields.{number_of, port_of, proto_of, value_of, origin_of, names_of}

@@ -1,25 +1,24 @@
 -- Each kind's fields against the grammar. A further kind is a case of `kind_complete` and one of `kind_sound`.
-use Rattle.std.proofs.Common.{◌≡◌, ℕ, ◌+◌, Bool, true, false, cond, nat_eq, List, [], ◌∷◌, ◌++◌, length, codes, Option, Some, None, Result, Ok, Err, append-nil, refl, ap, sym, ◌∙◌, subst}
+use Rattle.std.proofs.Common.{◌≡◌, ℕ, ◌+◌, Bool, true, false, cond, nat_eq, List, [], ◌∷◌, ◌++◌, length, codes, Option, Some, None, Ok, refl, ap, sym, ◌∙◌, subst}
 use Rattle.std.specs.Cmp.Lexicographic.{pointwise, same_text}
-use Rattle.alt_base.specs.declared.refusal.At.{At}
 use Rattle.origin_values.specs.HostReading.{read_addr}
 use Rattle.origin_values.specs.declared.address.Addr.{Addr}
 use Rattle.origin_values.specs.declared.origin.Origin.{Origin}
 use Rattle.origin_values.specs.declared.proto.Proto.{Proto}
-use Rattle.origin_values.proofs.Addresses.{read_addr_complete, read_addr_sound}
+use Rattle.origin_values.proofs.Addresses.{read_addr_sound}
 use Rattle.coalescing.specs.declared.cert_name.CertName.{CertName}
 use Rattle.route_events.specs.declared.fact.Fact.TheVariants.{Request, Opened, Failed, Closed, Tick}
 use Rattle.event_lines.specs.Fields.{most_short, most_long, number_of, port_of, proto_of, origin_of, names_of}
 use Rattle.event_lines.specs.Parts.{Part, Reading, ◌>>=◌, next_word, value_or, field, refused}
 use Rattle.event_lines.specs.LineReading.{request_fields, opened_fields, failed_fields, closed_fields, kind_reading}
-use Rattle.event_lines.specs.LineGrammar.{NoSpace, AreApart, spaced, SpellsNumber, SpellsRequest, SpellsOpened, SpellsNumbered, SpellsKind}
+use Rattle.event_lines.specs.LineGrammar.{NoSpace, AreApart, spaced, SpellsRequest, SpellsOpened, SpellsNumbered, SpellsKind}
 use Rattle.event_lines.specs.LineRefusals.{EndsWord, IsNext}
 use Rattle.event_lines.specs.declared.event.Event.{Event}
-use Rattle.event_lines.specs.declared.event.Event.TheVariants.{Client, Skip}
+use Rattle.event_lines.specs.declared.event.Event.TheVariants.{Client}
 use Rattle.event_lines.specs.declared.refusal.LineRefusal.{LineRefusal}
 use Rattle.event_lines.specs.declared.refusal.LineRefusal.TheVariants.{BadField, UnknownKind}
-use Rattle.event_lines.proofs.NumberTexts.{number_sound, number_complete, port_sound, port_complete}
-use Rattle.event_lines.proofs.FieldTexts.{proto_sound, proto_complete, origin_field_sound, origin_field_complete, names_field_sound, names_field_complete}
+use Rattle.event_lines.proofs.NumberTexts.{number_sound, port_sound}
+use Rattle.event_lines.proofs.FieldTexts.{proto_sound, origin_field_sound, names_field_sound}
 use Rattle.event_lines.proofs.Spaces.{next_reads, next_spaced, Next, Nothing, More, next_of}
 
 abbrev part : List ℕ → ℕ → Part

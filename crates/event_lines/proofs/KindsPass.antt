@@ -1,6 +1,6 @@
 -- Each kind is refused where its fields' forms are. A further kind is one line of `kinds_pass`.
-use Rattle.std.proofs.Common.{◌≡◌, ◌≢◌, ◌⊎◌, ℕ, ◌+◌, Bool, true, false, cond, nat_eq, List, [], ◌∷◌, ◌++◌, length, codes, Option, Some, None, Result, Ok, Err, refl, ap, sym, ◌∙◌, subst, inl, inr}
-use Rattle.std.specs.Cmp.Lexicographic.{pointwise, same_text, other_text}
+use Rattle.std.proofs.Common.{◌≡◌, ℕ, Bool, true, false, cond, nat_eq, List, [], ◌∷◌, codes, Ok, refl}
+use Rattle.std.specs.Cmp.Lexicographic.{pointwise}
 use Rattle.origin_values.specs.HostReading.{read_addr}
 use Rattle.origin_values.specs.declared.address.Addr.{Addr}
 use Rattle.origin_values.specs.declared.origin.Origin.{Origin}
@@ -9,8 +9,8 @@ use Rattle.coalescing.specs.declared.cert_name.CertName.{CertName}
 use Rattle.route_events.specs.declared.fact.Fact.TheVariants.{Request, Opened, Failed, Closed, Tick}
 use Rattle.event_lines.specs.Fields.{most_short, most_long, number_of, port_of, proto_of, origin_of, names_of}
 use Rattle.event_lines.specs.Parts.{Part, Reading, ◌>>=◌, field, refused}
-use Rattle.event_lines.specs.LineReading.{request_fields, opened_fields, failed_fields, closed_fields, kind_reading}
-use Rattle.event_lines.specs.LineRefusals.{Form, OfNumber, OfPort, OfProto, OfAddr, OfOrigin, OfNames, Kind, kinds, IsAmong, IsNone}
+use Rattle.event_lines.specs.LineReading.{request_fields, opened_fields, kind_reading}
+use Rattle.event_lines.specs.LineRefusals.{OfNumber, OfPort, OfProto, OfAddr, OfOrigin, OfNames, Kind, kinds}
 use Rattle.event_lines.specs.declared.event.Event.{Event}
 use Rattle.event_lines.specs.declared.event.Event.TheVariants.{Client}
 use Rattle.event_lines.specs.declared.refusal.LineRefusal.TheVariants.{UnknownKind}

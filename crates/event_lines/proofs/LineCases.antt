@@ -1,12 +1,11 @@
 -- The cases of a line: skipped, without a moment, without a kind, or with both.
-use Rattle.std.proofs.Common.{◌≡◌, ◌≢◌, ◌⊎◌, ℕ, ◌+◌, ◌<◌, ◌≤◌, Bool, true, false, cond, nat_eq, List, [], ◌∷◌, ◌++◌, length, Option, Some, None, Result, Ok, Err, append-nil, refl, ap, sym, ◌∙◌, subst, arith, inl, inr}
+use Rattle.std.proofs.Common.{◌≡◌, ℕ, ◌+◌, Bool, true, false, cond, List, [], ◌∷◌, ◌++◌, length, Option, Some, None, Result, Ok, append-nil, refl, ap, sym, ◌∙◌, subst, arith}
 use Rattle.std.specs.Str.Parse.{AllDigits, IsNumeral}
-use Rattle.std.specs.Char.{digit_value}
 use Rattle.std.proofs.lemmas.Str.Parse.{digit_from_value}
 use Rattle.alt_base.specs.declared.refusal.At.{At}
 use Rattle.event_lines.specs.Fields.{most_short, number_of}
 use Rattle.event_lines.specs.Parts.{Part, Reading, ◌>>=◌, before_space, from_space, next_word, value_or, refused}
-use Rattle.event_lines.specs.LineReading.{kind_reading, end_reading, moment_reading, event_reading, line_reading, is_skipped}
+use Rattle.event_lines.specs.LineReading.{kind_reading, end_reading, event_reading, line_reading, is_skipped}
 use Rattle.event_lines.specs.LineGrammar.{SpellsNumber, NoSpace, IsSkipped}
 use Rattle.event_lines.specs.LineRefusals.{EndsWord, IsFront, IsNext}
 use Rattle.event_lines.specs.declared.event.Event.{Event}
@@ -14,7 +13,7 @@ use Rattle.event_lines.specs.declared.event.Event.TheVariants.{Skip}
 use Rattle.event_lines.specs.declared.refusal.LineRefusal.{LineRefusal}
 use Rattle.event_lines.specs.declared.refusal.LineRefusal.TheVariants.{BadMoment, UnknownKind}
 use Rattle.event_lines.proofs.NumberTexts.{number_sound, number_complete}
-use Rattle.event_lines.proofs.Spaces.{before_front, from_front, word_apart, word_ends, front_of, next_reads, Next, Nothing, More, next_of, same_from_test, test_from_same, test_from_other}
+use Rattle.event_lines.proofs.Spaces.{before_front, from_front, word_ends, front_of, next_reads, Next, Nothing, More, next_of, same_from_test, test_from_same, test_from_other}
 use Rattle.event_lines.proofs.Steps.{not_skipped}
 
 abbrev pub Said : Type 0

@@ -1,23 +1,22 @@
 -- The reading of lines against their grammar.
-use Rattle.std.proofs.Common.{◌≡◌, ◌≢◌, ◌⊎◌, ℕ, ◌+◌, Bool, true, false, cond, nat_eq, List, [], ◌∷◌, ◌++◌, length, codes, Option, Some, None, Result, Ok, Err, append-nil, length-append, refl, ap, sym, ◌∙◌, subst, arith, inl, inr}
+use Rattle.std.proofs.Common.{◌≡◌, ℕ, ◌+◌, List, [], ◌∷◌, length, codes, Ok, Err, append-nil, refl, ap, sym, ◌∙◌, subst, inl, inr}
 use Rattle.alt_base.specs.declared.refusal.At.{At}
 use Rattle.route_events.specs.declared.fact.Fact.TheVariants.{Request, Opened, Failed, Closed, Tick}
-use Rattle.event_lines.specs.Fields.{most_short, most_long, number_of}
+use Rattle.event_lines.specs.Fields.{most_short, most_long}
 use Rattle.event_lines.specs.Parts.{Part, Reading, ◌>>=◌, refused}
 use Rattle.event_lines.specs.LineReading.{kind_reading, end_reading, line_reading}
-use Rattle.event_lines.specs.LineGrammar.{SpellsNumber, NoSpace, spaced, AreApart, SpellsKind, IsSkipped, SpellsSkip, SpellsEvent, SpellsLine}
-use Rattle.event_lines.specs.LineRefusals.{EndsWord, IsNext, Form, Kind, kinds, IsAmong, IsNone, FieldsRefusedAt, IsBadMoment, IsNoKind, IsOtherKind, IsWrongField, LineRefusedAt, OneLine}
+use Rattle.event_lines.specs.LineGrammar.{SpellsNumber, spaced, SpellsKind, SpellsLine}
+use Rattle.event_lines.specs.LineRefusals.{EndsWord}
 use Rattle.event_lines.specs.declared.event.Event.{Event}
 use Rattle.event_lines.specs.declared.event.Event.TheVariants.{Client, Skip}
 use Rattle.event_lines.specs.declared.refusal.LineRefusal.{LineRefusal}
-use Rattle.event_lines.specs.declared.refusal.LineRefusal.TheVariants.{BadMoment, UnknownKind, BadField, ExtraField}
+use Rattle.event_lines.specs.declared.refusal.LineRefusal.TheVariants.{BadMoment, UnknownKind}
 use Rattle.event_lines.proofs.NumberTexts.{number_complete, port_complete}
 use Rattle.event_lines.proofs.FieldTexts.{proto_complete, origin_field_complete, names_field_complete}
 use Rattle.event_lines.proofs.Spaces.{IsInner, no_space_from, next_spaced}
-use Rattle.event_lines.proofs.Skeleton.{Passed, pass_fields, ended, fields_refused, fields_say}
-use Rattle.event_lines.proofs.KindsPass.{pass_kind, kinds_pass}
+use Rattle.event_lines.proofs.Skeleton.{Passed, ended}
 use Rattle.event_lines.proofs.KindTexts.{request_complete, opened_complete, numbered_complete, kind_sound}
-use Rattle.event_lines.proofs.LineCases.{Said, part, bad_line, whole, behind_moment, skip_reads, number_apart, no_moment, with_moment, with_kind, no_kind, MomentAlone, Kinded, NoMoment, Line, Skipped, Wordless, Alone, Full, line_of}
+use Rattle.event_lines.proofs.LineCases.{Said, part, bad_line, whole, behind_moment, skip_reads, no_moment, with_moment, with_kind, no_kind, Line, Skipped, Wordless, Alone, Full, line_of}
 use Rattle.origin_values.proofs.Addresses.{read_addr_complete}
 
 abbrev got : Event → Part → Reading Event

@@ -1,20 +1,20 @@
 -- The refusals of lines against their table.
-use Rattle.std.proofs.Common.{◌≡◌, ◌≢◌, ◌⊎◌, ℕ, ◌+◌, Bool, true, false, cond, nat_eq, List, [], ◌∷◌, ◌++◌, length, Option, Some, None, Result, Ok, Err, append-nil, refl, ap, sym, ◌∙◌, subst, inl, inr}
+use Rattle.std.proofs.Common.{◌≡◌, ◌≢◌, ◌⊎◌, ℕ, ◌+◌, Bool, true, false, cond, nat_eq, List, [], ◌∷◌, ◌++◌, length, Option, Some, None, Ok, Err, append-nil, refl, ap, sym, ◌∙◌, subst, inl, inr}
 use Rattle.std.specs.Cmp.Lexicographic.{pointwise, same_text, other_text}
 use Rattle.alt_base.specs.declared.refusal.At.{At}
 use Rattle.event_lines.specs.Fields.{most_short, number_of}
 use Rattle.event_lines.specs.Parts.{Part, refused}
 use Rattle.event_lines.specs.LineReading.{kind_reading, line_reading}
 use Rattle.event_lines.specs.LineGrammar.{SpellsNumber, SpellsLine}
-use Rattle.event_lines.specs.LineRefusals.{EndsWord, IsNext, Form, Kind, kinds, IsAmong, IsNone, FieldsRefusedAt, IsBadMoment, IsNoKind, IsOtherKind, IsWrongField, LineRefusedAt, OneLine}
+use Rattle.event_lines.specs.LineRefusals.{EndsWord, IsNext, Form, Kind, kinds, IsAmong, IsNone, FieldsRefusedAt, IsOtherKind, IsWrongField, LineRefusedAt, OneLine}
 use Rattle.event_lines.specs.declared.event.Event.{Event}
 use Rattle.event_lines.specs.declared.event.Event.TheVariants.{Skip}
 use Rattle.event_lines.specs.declared.refusal.LineRefusal.{LineRefusal}
 use Rattle.event_lines.specs.declared.refusal.LineRefusal.TheVariants.{BadMoment, UnknownKind, BadField, ExtraField}
 use Rattle.event_lines.proofs.NumberTexts.{number_sound, number_complete}
-use Rattle.event_lines.proofs.Skeleton.{Passed, pass_fields, ended, fields_refused, fields_say, refusal_parts}
+use Rattle.event_lines.proofs.Skeleton.{Passed, pass_fields, fields_refused, fields_say, refusal_parts}
 use Rattle.event_lines.proofs.KindsPass.{pass_kind, kinds_pass}
-use Rattle.event_lines.proofs.LineCases.{Said, part, bad_line, whole, behind_moment, skip_reads, no_moment, with_moment, with_kind, no_kind, Kinded, NoMoment, MomentAlone, Line, Skipped, Wordless, Alone, Full, line_of}
+use Rattle.event_lines.proofs.LineCases.{Said, part, bad_line, whole, skip_reads, no_moment, with_moment, with_kind, no_kind, Kinded, Line, Skipped, Wordless, Alone, Full, line_of}
 use Rattle.event_lines.proofs.Lines.{said, said_parts, said_err, at_place, whole_refused, whole_says, line_sound, line_complete}
 
 abbrev bad : ℕ → LineRefusal → Passed

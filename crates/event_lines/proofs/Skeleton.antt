@@ -1,9 +1,9 @@
 -- Where a line is refused, without the values of its fields: the forms of the fields alone decide.
-use Rattle.std.proofs.Common.{◌≡◌, ◌≢◌, ◌⊎◌, ℕ, ◌+◌, Bool, true, false, cond, nat_eq, List, [], ◌∷◌, ◌++◌, length, Option, None, Some, Result, Ok, Err, refl, ap, sym, ◌∙◌, subst, arith, inl, inr}
+use Rattle.std.proofs.Common.{◌≡◌, ℕ, ◌+◌, Bool, true, false, cond, List, [], ◌∷◌, length, Option, None, Some, Result, Ok, Err, refl, ap, sym, ◌∙◌, inl, inr}
 use Rattle.alt_base.specs.declared.refusal.At.{At}
 use Rattle.event_lines.specs.Parts.{Part, Reading, ◌>>=◌, next_word, value_or, field, refused}
-use Rattle.event_lines.specs.LineReading.{nothing_at, end_reading}
-use Rattle.event_lines.specs.LineRefusals.{Form, HasForm, EndsWord, IsNext, IsMissing, IsBad, IsExtra, IsBehind, FieldsRefusedAt}
+use Rattle.event_lines.specs.LineReading.{end_reading}
+use Rattle.event_lines.specs.LineRefusals.{Form, EndsWord, IsNext, FieldsRefusedAt}
 use Rattle.event_lines.specs.declared.refusal.LineRefusal.{LineRefusal}
 use Rattle.event_lines.specs.declared.refusal.LineRefusal.TheVariants.{BadField, ExtraField}
 use Rattle.event_lines.proofs.FieldTexts.{is_some, has_form, form_sound, form_complete, form_missed, form_none}

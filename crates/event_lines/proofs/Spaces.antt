@@ -1,8 +1,8 @@
 -- Words and the spaces between them.
-use Rattle.std.proofs.Common.{◌≡◌, ◌≢◌, ℕ, ◌+◌, Bool, true, false, cond, not, ◌&&◌, nat_eq, List, [], ◌∷◌, ◌++◌, length, Result, Ok, Err, append-nil, refl, ap, sym, ◌∙◌, subst, arith}
+use Rattle.std.proofs.Common.{◌≡◌, ◌≢◌, ℕ, ◌+◌, Bool, true, false, cond, not, nat_eq, List, [], ◌∷◌, ◌++◌, length, Ok, refl, ap, ◌∙◌, arith}
 use Rattle.std.specs.List.{list_all}
-use Rattle.event_lines.specs.Parts.{Part, is_space, before_space, from_space, Reading, word_behind, next_word, refused}
-use Rattle.event_lines.specs.LineGrammar.{NoSpace, AreApart, spaced}
+use Rattle.event_lines.specs.Parts.{Part, is_space, before_space, from_space, Reading, word_behind, next_word}
+use Rattle.event_lines.specs.LineGrammar.{NoSpace, spaced}
 use Rattle.event_lines.specs.LineRefusals.{EndsWord, IsFront, IsNext}
 use Rattle.event_lines.specs.declared.refusal.LineRefusal.{LineRefusal}
 use Rattle.event_lines.proofs.Numbers.{both}

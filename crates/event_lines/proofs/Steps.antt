@@ -1,5 +1,5 @@
 -- Reading a line step by step.
-use Rattle.std.proofs.Common.{◌≡◌, ℕ, Bool, false, cond, List, Result, Ok, Err, refl, ap, sym, ◌∙◌, subst}
+use Rattle.std.proofs.Common.{◌≡◌, ℕ, Bool, false, cond, List, Result, Ok, Err, ap, ◌∙◌}
 use Rattle.std.specs.Result.{IsErrAnd}
 use Rattle.alt_base.specs.declared.moment.Moment.{Moment}
 use Rattle.alt_base.specs.declared.refusal.At.{At}

@@ -1,9 +1,8 @@
 -- The line of an event says it, and what a line says has a line.
-use Rattle.std.proofs.Common.{◌≡◌, ◌≢◌, ◌⊎◌, ℕ, zero, suc, ◌+◌, ◌<◌, ◌≤◌, ◌^◌, List, [], ◌∷◌, ◌++◌, length, get_or, decimal, codes, append_assoc, append-nil, refl, ap, sym, ◌∙◌, subst, arith, inl, inr}
+use Rattle.std.proofs.Common.{◌≡◌, ℕ, zero, suc, ◌<◌, ◌≤◌, ◌^◌, List, [], ◌∷◌, ◌++◌, get_or, decimal, codes, append_assoc, append-nil, refl, sym, subst, arith, inl, inr}
 use Rattle.std.proofs.lemmas.Fmt.{decimal_is_IsNumeral, decimal_digit, first_decimal}
 use Rattle.origin_values.specs.Written.{addr_text, origin_text}
 use Rattle.origin_values.specs.declared.address.Addr.{Addr}
-use Rattle.origin_values.specs.declared.origin.Origin.{Origin}
 use Rattle.origin_values.specs.declared.proto.Proto.{Proto}
 use Rattle.origin_values.specs.declared.proto.Proto.TheVariants.{H2, H3, Http11, Other}
 use Rattle.origin_values.proofs.AddressTexts.{addr_written, addr_valid}
@@ -16,7 +15,7 @@ use Rattle.route_events.specs.declared.fact.Fact.TheVariants.{Request, Opened, F
 use Rattle.event_lines.specs.EventTexts.{proto_text, opened_text, fact_text, event_text}
 use Rattle.event_lines.specs.Fields.{most_short, most_long, most_port}
 use Rattle.event_lines.specs.HaveLines.{HasOpenedLine, HasFactLine, HasLine}
-use Rattle.event_lines.specs.LineGrammar.{NoLeadingZero, SpellsNumber, NoSpace, spaced, SpellsRequest, SpellsOpened, SpellsNumbered, SpellsKind, SpellsEvent, SpellsLine}
+use Rattle.event_lines.specs.LineGrammar.{NoLeadingZero, SpellsNumber, NoSpace, spaced, SpellsOpened, SpellsKind, SpellsEvent, SpellsLine}
 use Rattle.event_lines.specs.LineReading.{line_reading}
 use Rattle.event_lines.specs.declared.event.Event.{Event}
 use Rattle.event_lines.specs.declared.event.Event.TheVariants.{Client, Skip}

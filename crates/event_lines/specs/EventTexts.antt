@@ -1,5 +1,5 @@
 -- The lines of events, each without a newline. A further kind is one case of `fact_text`, or of `event_text`.
-use Rattle.std.specs.Prelude.{ℕ, List, [], ◌∷◌, ◌++◌, codes, decimal}
+use Rattle.std.specs.Prelude.{ℕ, List, [], ◌++◌, codes, decimal}
 use Rattle.origin_values.specs.Written.{origin_text, addr_text}
 use Rattle.origin_values.specs.declared.address.Addr.{Addr}
 use Rattle.origin_values.specs.declared.proto.Proto.{Proto}

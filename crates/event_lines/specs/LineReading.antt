@@ -1,6 +1,6 @@
 -- Reading a line: its moment, its kind, and the fields of the kind. A further kind is one case of `kind_reading`, and the
 -- reading of its fields.
-use Rattle.std.specs.Prelude.{ℕ, ◌+◌, Bool, true, false, nat_eq, List, [], ◌∷◌, length, codes, Option, Some, None, Result, Ok, Err, if◌then◌else◌}
+use Rattle.std.specs.Prelude.{ℕ, ◌+◌, Bool, true, nat_eq, List, [], ◌∷◌, codes, Result, Ok, if◌then◌else◌}
 use Rattle.std.specs.Cmp.Lexicographic.{pointwise}
 use Rattle.alt_base.specs.declared.refusal.At.{At}
 use Rattle.origin_values.specs.HostReading.{read_addr}

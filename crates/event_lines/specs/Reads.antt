@@ -1,5 +1,5 @@
 -- What a result says of the reading that a definition gives.
-use Rattle.std.specs.Prelude.{◌≡◌, ℕ, List, Result, Ok, Err}
+use Rattle.std.specs.Prelude.{◌≡◌, ℕ, Result, Ok, Err}
 use Rattle.alt_base.specs.declared.moment.Moment.{Moment}
 use Rattle.alt_base.specs.declared.refusal.At.{At}
 use Rattle.alt_base.specs.declared.refusal.Refused.{Refused}

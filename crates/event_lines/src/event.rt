@@ -1,4 +1,6 @@
+use alt_base::{Duplicate, NoMemory};
 use route_events::Fact;
+use std::alloc::Global;
 
 /// What a line says.
 #[derive(Debug, PartialEq, Eq, Drop)]
@@ -7,4 +9,13 @@ pub enum Event {
     Client(Fact),
     /// Nothing: the line is empty, or begins with `#`.
     Skip,
+}
+
+impl Duplicate for Event {
+    fn copy(&self, alloc: Global) -> Result<Self, NoMemory> {
+        match self {
+            Event::Client(fact) => Ok(Event::Client(fact.copy(alloc)?)),
+            Event::Skip => Ok(Event::Skip),
+        }
+    }
 }

@@ -1,8 +1,8 @@
-ghost use Rattle.std.specs.Prelude.{◌≡◌, codes, nat_eq};
 ghost use Rattle.event_lines.specs.LineReading.{request_fields, opened_fields, failed_fields, closed_fields, kind_reading};
 ghost use Rattle.event_lines.specs.Reads.{Reads, MayRead};
 
-use crate::line_reader::{LineReader, Part};
+use crate::line_reader::LineReader;
+use crate::part::Part;
 use crate::{Event, LineRefusal};
 use alt_base::{At, Refused};
 use route_events::Fact;

@@ -9,6 +9,7 @@ mod kinds;
 mod laws;
 mod line_reader;
 mod number;
+mod part;
 mod pieces;
 mod protocols;
 mod reading;

@@ -1,7 +1,5 @@
-ghost use Rattle.std.specs.Prelude.{◌≡◌, ◌+◌, ◌≤◌, ◌<◌, ◌^◌, length};
-ghost use Rattle.alt_base.specs.declared.refusal.At.{At};
-ghost use Rattle.event_lines.specs.declared.refusal.LineRefusal.{LineRefusal};
-ghost use Rattle.event_lines.specs.Parts.{Part, before_space, first_word, behind_word, value_or, next_word, field};
+ghost use Rattle.std.specs.Prelude.{◌≡◌, ◌≤◌, ◌<◌, ◌^◌, length};
+ghost use Rattle.event_lines.specs.Parts.{before_space, first_word, behind_word, next_word, field};
 ghost use Rattle.event_lines.specs.Fields.{most_short, most_long, number_of, port_of, proto_of, origin_of, names_of};
 ghost use Rattle.event_lines.specs.LineReading.{moment_reading, end_reading};
 ghost use Rattle.event_lines.specs.Reads.{Reads, MayRead};
@@ -10,6 +8,7 @@ ghost use Rattle.origin_values.specs.HostReading.{read_addr};
 use crate::LineRefusal;
 use crate::fields::{names_of, origin_of, port_of, proto_of};
 use crate::number::number_of;
+use crate::part::Part;
 use alt_base::{At, Refused};
 use coalescing::CertNames;
 use origin_values::{Addr, Origin, Proto};
@@ -21,26 +20,8 @@ const MOST_SHORT: u64 = 4_294_967_295;
 /// The greatest number of an attempt or a connection.
 const MOST_LONG: u64 = 18_446_744_073_709_551_615;
 
-/// A part of a line, and the place where it begins.
-#[derive(Debug, Drop)]
-pub(crate) struct Part<'a> {
-    pub text: &'a [u8],
-    pub place: u32,
-}
-
-impl<'a> Model for Part<'a> {
-    ghost use Rattle.std.specs.Prelude.{◌+◌, ◌<◌, ◌^◌, length};
-    ghost use Rattle.event_lines.specs.Parts.{Part};
-
-    ghost Value = { Part };
-
-    ghost view = { λ part. record { text = part.text.now; place = part.place } };
-
-    ghost invariant = { λ part. part.place + length part.text.now < 2 ^ 32 };
-}
-
 /// Reads a line from left to right. To a contract it is what is left of the line, and the place where that begins.
-#[derive(Debug, Drop)]
+#[derive(Drop)]
 pub(crate) struct LineReader<'a> {
     rest: &'a [u8],
     place: u32,

@@ -10,10 +10,10 @@ fn read(alloc: Global, line: &[u8]) -> Result<(Moment, Event), Refused<LineRefus
     read_line(alloc, &line[..line.len().min(1000)])
 }
 
-// The line that the event of a line is written as.
+// The line that the event of a line, copied, is written as.
 fn written(alloc: Global, line: &str) -> Result<Bytes, Refused<LineRefusal>> {
     let (moment, event) = read(alloc, line.as_bytes())?;
-    Ok(write_event(alloc, moment, &event)?)
+    Ok(write_event(alloc, moment, &event.copy(alloc)?)?)
 }
 
 #[test]

@@ -1,4 +1,4 @@
-use Rattle.std.proofs.Common.{◌≡◌, ap, sym, ◌∙◌}
+use Rattle.std.proofs.Common.{ap, sym, ◌∙◌}
 use Rattle.event_lines.specs.LineReading.{moment_reading}
 use Rattle.event_lines.proofs.Steps.{steps, passed_on}
 use Rattle.event_lines.proofs.reading.read_line.Goals as goal
