@@ -1,0 +1,4 @@
+pub mod Slices
+pub mod ParameterLemmas
+pub mod ProtocolLemmas
+pub mod KeptLemmas

@@ -1,0 +1,23 @@
+//! The values of the fields Alt-Svc and Alt-Used (RFC 7838), read and written.
+#![tactic(auto)]
+
+mod alt;
+mod alt_key;
+mod alt_svc;
+mod authority;
+mod element;
+mod elements;
+mod given;
+mod parameters;
+mod protocol;
+mod refusal;
+mod seen;
+mod terms;
+mod unquoted;
+mod value;
+
+pub use alt::{Alt, Alts};
+pub use alt_key::AltKey;
+pub use alt_svc::AltSvc;
+pub use refusal::{AltRefusal, UsedRefusal};
+pub use value::parse;
