@@ -83,25 +83,30 @@ abbrev pub see : Seen → Element → Seen
 see seen element.Clear = record { clear = true; kept = seen.kept }
 see seen (element.Alternative key terms) = record { clear = seen.clear; kept = keep seen.kept key terms }
 
--- what follows an element
+abbrev pub element_seen : Seen → Result (Step Element) (At AltRefusal) → Result (Step Seen) (At AltRefusal)
+element_seen seen (Ok step) = Ok (record { value = see seen step.value; place = step.place; rest = step.rest })
+element_seen seen (Err at) = Err at
+
+-- what stands before the next comma or the end: nothing, or an element
+abbrev pub seen_element : ℕ → Seen → ℕ → List ℕ → Result (Step Seen) (At AltRefusal)
+seen_element most seen place [] = Ok (record { value = seen; place = place; rest = [] })
+seen_element most seen place (b ∷ bs) =
+    if nat_eq b 44 then Ok (record { value = seen; place = place; rest = b ∷ bs })
+    else element_seen seen (read_element most place (b ∷ bs))
+
+-- the end, or a comma and more
 abbrev pub after_element : (Seen → ℕ → List ℕ → Result Seen (At AltRefusal)) → Seen → ℕ → List ℕ → Result Seen (At AltRefusal)
 after_element more seen place [] = Ok seen
 after_element more seen place (b ∷ bs) = if nat_eq b 44 then more seen (place + 1) bs else refused place Trailing
 
-abbrev pub then_elements : (Seen → ℕ → List ℕ → Result Seen (At AltRefusal)) → Seen → Result (Step Element) (At AltRefusal) → Result Seen (At AltRefusal)
-then_elements more seen (Ok step) = after_element more (see seen step.value) step.place step.rest
-then_elements more seen (Err at) = Err at
-
--- what follows the blanks: the end, the next comma, or an element
-abbrev pub elements_from : ℕ → (Seen → ℕ → List ℕ → Result Seen (At AltRefusal)) → Seen → ℕ → List ℕ → Result Seen (At AltRefusal)
-elements_from most more seen place [] = Ok seen
-elements_from most more seen place (b ∷ bs) =
-    if nat_eq b 44 then more seen (place + 1) bs else then_elements more seen (read_element most place (b ∷ bs))
+abbrev pub then_elements : (Seen → ℕ → List ℕ → Result Seen (At AltRefusal)) → Result (Step Seen) (At AltRefusal) → Result Seen (At AltRefusal)
+then_elements more (Ok step) = after_element more step.value step.place step.rest
+then_elements more (Err at) = Err at
 
 -- the elements; fewer commas than this number stand between them
 abbrev pub read_elements : ℕ → ℕ → Seen → ℕ → List ℕ → Result Seen (At AltRefusal)
 read_elements most zero seen place x = Ok seen
-read_elements most (suc fewer) seen place x = elements_from most (read_elements most fewer) seen (read_blanks place x) (after_blanks x)
+read_elements most (suc fewer) seen place x = then_elements (read_elements most fewer) (seen_element most seen (read_blanks place x) (after_blanks x))
 
 abbrev pub alt_of : AltKey × Terms → Alt
 alt_of e = record { key = e.0; ma = e.1.ma; persist = e.1.persist }

@@ -3,9 +3,9 @@ ghost use Rattle.std.specs.Cmp.Lexicographic.{pointwise};
 ghost use Rattle.origin_values.specs.Gives.{Gives};
 ghost use Rattle.alt_base.specs.declared.refusal.Refused.TheVariants.{At as RefusedThere};
 ghost use Rattle.altsvc_grammar.specs.Steps.{GivesStep};
-ghost use Rattle.altsvc_grammar.specs.ValueReading.{nothing_seen, lone_token, with_protocol, with_terms, read_element, read_elements};
+ghost use Rattle.altsvc_grammar.specs.ValueReading.{nothing_seen, lone_token, with_protocol, with_terms, read_element, seen_element, read_elements};
 ghost use Rattle.altsvc_grammar.specs.ParameterReading.{read_parameters as read_the_parameters, nothing_given};
-ghost use Rattle.altsvc_grammar.specs.SeenElements.{GivesSeen};
+ghost use Rattle.altsvc_grammar.specs.SeenElements.{seen_of, GivesSeen, GivesPlace};
 
 use crate::authority::read_authority;
 use crate::element::Element;
@@ -27,24 +27,37 @@ pub(crate) fn read_elements(alloc: Global, input: &[u8]) -> Result<Seen, Refused
     let mut seen = Seen::new(alloc);
     let mut place = 0;
     for turn in 0..input.len() + 1 {
-        let mut here = ows(input, place);
-        if here as usize == input.len() {
+        let end = see_element(alloc, input, ows(input, place), &mut seen)?;
+        if end as usize == input.len() {
             return Ok(seen);
         }
-        if !stands_at(input, here, b',') {
-            let (element, end) = read_element(alloc, input, here)?;
-            seen.see(element)?;
-            if end as usize == input.len() {
-                return Ok(seen);
-            }
-            if !stands_at(input, end, b',') {
-                return Err(refused(end, AltRefusal::Trailing));
-            }
-            here = end;
+        if !stands_at(input, end, b',') {
+            return Err(refused(end, AltRefusal::Trailing));
         }
-        place = here + 1;
+        place = end + 1;
     }
     Ok(seen)
+}
+
+// Sees the element at a place, where neither a comma nor the end stands there. The place behind it and the blanks that
+// follow.
+fn see_element(
+    alloc: Global,
+    input: &[u8],
+    place: u32,
+    seen: &mut Seen,
+) -> Result<u32, Refused<AltRefusal>>
+    requires place { place ≤ length input.now }
+    requires small { length input.now < 2 ^ 32 }
+    ensures reading { GivesPlace input.now seen.new result (seen_element (length input.now + 1) (seen_of seen.old) place (drop place input.now)) }
+    ensures within { IfOk result (λ end. end ≤ length input.now) }
+{
+    if place as usize == input.len() || stands_at(input, place, b',') {
+        return Ok(place);
+    }
+    let (element, end) = read_element(alloc, input, place)?;
+    seen.see(element)?;
+    Ok(end)
 }
 
 // The element at a place, and the place behind it and the blanks that follow.
