@@ -1,8 +1,10 @@
 pub mod Steps
 pub mod Keys
 pub mod Written
+pub mod Shown
 pub mod ProtocolReading
 pub mod AuthorityReading
 pub mod ParameterReading
 pub mod ValueReading
 pub mod SeenElements
+pub mod UsedReading

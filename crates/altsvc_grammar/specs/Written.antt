@@ -1,7 +1,6 @@
 -- The texts that values of Alt-Svc and Alt-Used are written as (RFC 7838 3 and 5).
-use Rattle.std.specs.Prelude.{ℕ, ◌/◌, ◌%◌, ◌==◌, Bool, true, false, ◌&&◌, not, nat_eq, List, [], ◌∷◌, ◌++◌, codes, decimal, Option, None, Some, if◌then◌else◌}
-use Rattle.std.specs.List.{flat_map}
-use Rattle.std.specs.Fmt.{digit_glyph}
+use Rattle.std.specs.Prelude.{ℕ, ◌==◌, Bool, true, false, ◌&&◌, not, nat_eq, List, [], ◌∷◌, ◌++◌, codes, decimal, Option, None, Some, if◌then◌else◌}
+use Rattle.percent_encoding.specs.Percent.{percent_encode_byte}
 use Rattle.field_text.specs.TokenGrammar.{is_token}
 use Rattle.origin_values.specs.Written.{host_text}
 use Rattle.origin_values.specs.declared.host.Host.{Host}
@@ -16,7 +15,7 @@ is_plain byte = is_token byte && not (nat_eq byte 37)
 
 -- as it is, or `%` and its two upper-case hex digits
 abbrev pub encoded_byte : ℕ → List ℕ
-encoded_byte byte = if is_plain byte then byte ∷ [] else 37 ∷ digit_glyph true (byte / 16 % 16) ∷ digit_glyph true (byte % 16) ∷ []
+encoded_byte byte = if is_plain byte then byte ∷ [] else percent_encode_byte byte
 
 -- the encoded form of a protocol: each byte in its one spelling
 abbrev pub encoded : List ℕ → List ℕ
@@ -43,10 +42,13 @@ abbrev pub alt_text : Alt → List ℕ
 alt_text alt = key_text alt.key ++ ma_text alt.ma ++ persist_text alt.persist
 
 -- the alternatives joined by a comma and a space
+abbrev pub more_alts_text : List Alt → List ℕ
+more_alts_text [] = []
+more_alts_text (alt ∷ alts) = codes ", " ++ alt_text alt ++ more_alts_text alts
+
 abbrev pub alts_text : List Alt → List ℕ
 alts_text [] = []
-alts_text (alt ∷ []) = alt_text alt
-alts_text (alt ∷ next ∷ alts) = alt_text alt ++ codes ", " ++ alts_text (next ∷ alts)
+alts_text (alt ∷ alts) = alt_text alt ++ more_alts_text alts
 
 abbrev pub value_text : AltSvc → List ℕ
 value_text value.Clear = codes "clear"

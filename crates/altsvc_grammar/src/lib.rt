@@ -12,12 +12,18 @@ mod parameters;
 mod protocol;
 mod refusal;
 mod seen;
+mod show;
 mod terms;
 mod unquoted;
+mod used;
 mod value;
+mod written;
 
 pub use alt::{Alt, Alts};
 pub use alt_key::AltKey;
 pub use alt_svc::AltSvc;
 pub use refusal::{AltRefusal, UsedRefusal};
+pub use show::show_text;
+pub use used::{parse_alt_used, write_alt_used};
 pub use value::parse;
+pub use written::write;
