@@ -61,7 +61,7 @@ pub nothing_at_comma : (most : ℕ) (seen : Seen) (p : ℕ) (x : List ℕ) → b
 nothing_at_comma most seen p [] comma = refl
 nothing_at_comma most seen p (b ∷ bs) comma = rw comma refl
 
-seen_at : (most : ℕ) (seen : Seen) (p : ℕ) (x : List ℕ) → 0 < length x → begins_with 44 x ≡ false → seen_element most seen p x ≡ element_seen seen (read_element most p x)
+pub seen_at : (most : ℕ) (seen : Seen) (p : ℕ) (x : List ℕ) → 0 < length x → begins_with 44 x ≡ false → seen_element most seen p x ≡ element_seen seen (read_element most p x)
 seen_at most seen p [] some none = absurd (omega arith)
 seen_at most seen p (b ∷ bs) some none = rw none refl
 

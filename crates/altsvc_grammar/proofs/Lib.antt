@@ -3,3 +3,9 @@ pub mod ParameterLemmas
 pub mod ProtocolLemmas
 pub mod KeptLemmas
 pub mod ElementLemmas
+pub mod Spelling
+pub mod Percents
+pub mod SpelledParameters
+pub mod Authorities
+pub mod SpelledElements
+pub mod SpelledValues

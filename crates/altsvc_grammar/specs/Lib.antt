@@ -8,3 +8,7 @@ pub mod ParameterReading
 pub mod ValueReading
 pub mod SeenElements
 pub mod UsedReading
+pub mod AuthorityGrammar
+pub mod ParameterGrammar
+pub mod ValueGrammar
+pub mod ValueRefusals
