@@ -9,3 +9,5 @@ pub mod SpelledParameters
 pub mod Authorities
 pub mod SpelledElements
 pub mod SpelledValues
+pub mod Meanings
+pub mod RefusedValues

@@ -52,7 +52,7 @@ no_equals : (most p q : ℕ) (token x : List ℕ) → begins_with 61 x ≡ false
 no_equals most p q token [] none = refl
 no_equals most p q token (b ∷ bs) none = rw none refl
 
-clear_token : IsToken (codes "clear")
+pub clear_token : IsToken (codes "clear")
 clear_token = record { some = λ e. cc; valid = (refl, (refl, (refl, (refl, (refl, tt))))) }
 
 pub clear_read : (most n p : ℕ) (blanks tail : List ℕ) → AllIn is_blank blanks → (BeginsIn is_blank tail → ⊥) → (BeginsIn is_token (blanks ++ tail) → ⊥) → begins_with 61 (blanks ++ tail) ≡ false → p + length (codes "clear" ++ (blanks ++ tail)) ≡ n
@@ -139,7 +139,7 @@ parameters_count (q ∷ ps) w =
     let z = q.name ++ 61 ∷ value_then q.value rest in
     omega (arith, parameters_count ps w, value_length q.value rest, length-append q.before (59 ∷ (q.after ++ z)), length-append q.after z, length-append q.name (61 ∷ value_then q.value rest))
 
-alternative_count : (a : Alternative) (w : List ℕ) → length a.parameters + length w ≤ length (alternative_then a w)
+pub alternative_count : (a : Alternative) (w : List ℕ) → length a.parameters + length w ≤ length (alternative_then a w)
 alternative_count a w =
     let y = parameters_then a.parameters w in
     omega (arith, parameters_count a.parameters w, length-append (encoded a.proto) (61 ∷ quoted_then a.parts y), length-append (parts_text a.parts) (34 ∷ y))
