@@ -144,8 +144,10 @@ colon_view (b ∷ bs) p found = go (nat_eq b 58) refl (colon_view bs (p + 1) (So
   where
     eq_fact : (a : ℕ) → nat_eq a 58 ≡ true → a ≡ 58
     eq_fact a h = grind arith
+
     later : (other : Option ℕ) → AtColon (p + 1) other bs → cond (nat_eq b 58) (Some p) found ≡ other → AtColon p found (b ∷ bs)
     later other a is = record { front = b ∷ a.front; digits = a.digits; text = ap (λ xs. b ∷ xs) a.text; place = rw is (a.place ∙ ap Some (omega arith)) }
+
     go : (t : Bool) → nat_eq b 58 ≡ t → (last_colon (p + 1) (Some p) bs ≡ Some p) ⊎ AtColon (p + 1) (Some p) bs → (last_colon (p + 1) found bs ≡ found) ⊎ AtColon (p + 1) found bs → (last_colon p found (b ∷ bs) ≡ found) ⊎ AtColon p found (b ∷ bs)
     go true is (inl e) other = inr (record { front = []; digits = bs; text = ap (λ c. c ∷ bs) (eq_fact b is); place = rw is (e ∙ ap Some (omega arith)) })
     go true is (inr a) other = inr (later (Some p) a (rw is refl))

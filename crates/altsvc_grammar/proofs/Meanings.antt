@@ -71,6 +71,7 @@ kept_seen (Offered a ∷ es) seen = go (key_in (key_of a) (keys_kept seen.kept))
   where
     terms : Terms
     terms = record { ma = (alt_meant a).ma; persist = (alt_meant a).persist }
+
     go : (t : Bool) → key_in (key_of a) (keys_kept seen.kept) ≡ t → ((next : Seen) → alts_kept (see_all next es).kept ≡ alts_kept next.kept ++ firsts (keys_kept next.kept) (alternatives_of es))
         → alts_kept (see_all (see seen (element_meant (Offered a))) es).kept ≡ alts_kept seen.kept ++ cond t (firsts (keys_kept seen.kept) (alternatives_of es)) (alt_meant a ∷ firsts (keys_kept seen.kept ++ key_of a ∷ []) (alternatives_of es))
     go true is rest =

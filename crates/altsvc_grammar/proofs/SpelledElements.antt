@@ -72,6 +72,7 @@ pointwise_is (a ∷ more) (b ∷ bs) h = go (nat_eq a b) refl h (pointwise_is mo
   where
     eq_fact : (x y : ℕ) → nat_eq x y ≡ true → x ≡ y
     eq_fact x y h = grind arith
+
     go : (t : Bool) → nat_eq a b ≡ t → (t && pointwise nat_eq more bs) ≡ true → (pointwise nat_eq more bs ≡ true → more ≡ bs) → a ∷ more ≡ b ∷ bs
     go true is rest rec = let head = eq_fact a b is in let tail = rec rest in cc
     go false is rest rec = cc

@@ -180,7 +180,7 @@ bad_value_read : (n p q r : ℕ) (reason : TextRefusal) (given : Given) (name re
 bad_value_read n p q r reason given name rest valid ends at bad place =
     let here : n - length (61 ∷ rest) + 1 ≡ r = omega (arith, length-append name (61 ∷ rest)) in
     let value : read_parameter_value r rest ≡ refused q BadParameter =
-      ap (value_by_token r rest) (token_refused r r Empty rest (refl, ends)) ∙ ap (value_by_quoted rest) (quoted_refused r q reason rest bad) in
+    ap (value_by_token r rest) (token_refused r r Empty rest (refl, ends)) ∙ ap (value_by_quoted rest) (quoted_refused r q reason rest bad) in
     name_read n p given name rest valid place ∙ rw here (ap (noted_value given name) value)
 
 -- a parameter that is refused

@@ -76,6 +76,7 @@ no_equals_behind (b ∷ bs) w are none = blank_not b are.0
   where
     eq_fact : (x y : ℕ) → nat_eq x y ≡ true → x ≡ y
     eq_fact x y h = grind arith
+
     blank_not : (c : ℕ) → is_blank c ≡ true → nat_eq c 61 ≡ false
     blank_not c h = go (nat_eq c 61) refl
       where

@@ -42,7 +42,11 @@ impl Seen {
     }
 
     // The value of a text of this length.
-    pub(crate) fn into_value(self, alloc: Global, length: u32) -> Result<AltSvc, Refused<AltRefusal>>
+    pub(crate) fn into_value(
+        self,
+        alloc: Global,
+        length: u32,
+    ) -> Result<AltSvc, Refused<AltRefusal>>
         ensures { Gives result (value_of length (seen_of self)) }
     {
         let Seen { clear, kept } = self;

@@ -38,6 +38,6 @@ loop-turn-preserved c =
     let inside : c.in_ok-end.end < length c.args.input.now = omega (arith, c.in_ok-end.ensures.within) in
     record {
       reading = sym (sym c.loop-turn.invariant.reading ∙ said ∙ ap (then_elements (read_elements n (n - (c.loop-turn.turn + 1)))) c.in_ok-end.ensures.reading
-      ∙ comma_behind (read_elements n (n - (c.loop-turn.turn + 1))) (seen_of c.see_element.new.seen) c.in_ok-end.end c.args.input.now inside comma);
+          ∙ comma_behind (read_elements n (n - (c.loop-turn.turn + 1))) (seen_of c.see_element.new.seen) c.in_ok-end.end c.args.input.now inside comma);
       within = omega (arith, c.in_ok-end.ensures.within);
     }

@@ -1,0 +1,9 @@
+use Rattle.altsvc_grammar.proofs.Meanings.{value_spelled}
+use Rattle.altsvc_grammar.proofs.RefusedValues.{value_refused}
+use Rattle.altsvc_grammar.proofs.laws.values_are_read.Goals as goal
+
+pub returns-clause-spelled : goal.returns-clause-spelled
+returns-clause-spelled c = λ x v s. value_spelled x v s
+
+pub returns-clause-refused : goal.returns-clause-refused
+returns-clause-refused c = λ x q r h. value_refused x q r h
