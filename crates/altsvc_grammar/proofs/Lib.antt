@@ -11,3 +11,5 @@ pub mod SpelledElements
 pub mod SpelledValues
 pub mod Meanings
 pub mod RefusedValues
+pub mod EveryElement
+pub mod EveryValue

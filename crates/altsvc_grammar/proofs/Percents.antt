@@ -191,7 +191,7 @@ pub bad_percent_read : (p : ℕ) (good more : List ℕ) → All (λ b. b < 256) 
     → read_protocol p (encoded good ++ 37 ∷ more) ≡ refused (p + length (encoded good)) BadPercent
 bad_percent_read p good more small bad = rw (encoded_passed good p (37 ∷ more) small, not_coded more bad) refl
 
-byte_length : (b : ℕ) → 1 ≤ length (encoded_byte b)
+pub byte_length : (b : ℕ) → 1 ≤ length (encoded_byte b)
 unfolding percent_encode_byte
 byte_length b = go (is_plain b)
   where

@@ -64,7 +64,7 @@ clear_read most n p blanks tail valid ends no_token none place =
     let there : read_blanks (n - length w) w ≡ n - length tail = blanks_place n (n - length w) w inside ∙ ap (λ xs. n - length xs) behind in
     by_token most n p (codes "clear") w clear_token no_token place ∙ no_equals most p (n - length w) (codes "clear") w none ∙ rw (there, behind) refl
 
-pointwise_is : (a b : List ℕ) → pointwise nat_eq a b ≡ true → a ≡ b
+pub pointwise_is : (a b : List ℕ) → pointwise nat_eq a b ≡ true → a ≡ b
 pointwise_is [] [] h = refl
 pointwise_is [] (b ∷ bs) h = cc
 pointwise_is (a ∷ more) [] h = cc
