@@ -1,6 +1,9 @@
 -- Each text is exactly one value or one refusal.
-use Rattle.std.proofs.Common.{◌≡◌, ◌≢◌, ◌⊎◌, ℕ, zero, suc, ◌+◌, ◌-◌, ◌≤◌, ◌<◌, Bool, true, false, nat_eq, nat_lt, List, [], ◌∷◌, ◌++◌, length, Option, Some, None, Result, Ok, Err, refl, ap, sym, ◌∙◌, subst, arith, length-append, inl, inr}
+use Rattle.std.proofs.Common.{◌≡◌, ◌≢◌, ◌⊎◌, ℕ, zero, suc, ◌+◌, ◌-◌, ◌≤◌, ◌<◌, Bool, true, false, nat_eq, nat_lt, List, [], ◌∷◌, ◌++◌, length, Option, Some, None, Result, Ok, Err, IfOk, refl, ap, sym, ◌∙◌, subst, arith, length-append, inl, inr}
 use Rattle.alt_base.specs.declared.refusal.At.{At}
+use Rattle.alt_base.specs.declared.refusal.Refused as Fails
+use Rattle.alt_base.specs.declared.refusal.Refused.TheVariants as fails
+use Rattle.origin_values.specs.Gives.{Gives, IfRefused}
 use Rattle.field_text.specs.OneReading.{OneReading}
 use Rattle.field_text.specs.Runs.{AllIn, BeginsIn}
 use Rattle.field_text.specs.BlanksGrammar.{is_blank}
@@ -172,3 +175,14 @@ one_answer x = record {
   one_refusal = λ q q' r r' a b. same_at (record { place = q; reason = r }) (record { place = q'; reason = r' }) (sym (value_refused x q r a) ∙ value_refused x q' r' b);
   not_both = λ v q r a b. let e : ok_of v ≡ err_of (record { place = q; reason = r }) = sym (value_spelled x v a) ∙ value_refused x q r b in cc;
 }
+
+-- a call that gives the reading says so
+pub gives_spelled : (x : List ℕ) (r : Result AltSvc (Fails.Refused AltRefusal)) → Gives r (read_value x) → IfOk r (λ v. SpellsValue x v)
+gives_spelled x (Ok v) h = read_spelled x v h
+gives_spelled x (Err fails.NoMemory) h = tt
+gives_spelled x (Err (fails.At place reason)) h = tt
+
+pub gives_refused : (x : List ℕ) (r : Result AltSvc (Fails.Refused AltRefusal)) → Gives r (read_value x) → IfRefused r (λ place reason. ValueRefusedAt x place reason)
+gives_refused x (Ok v) h = tt
+gives_refused x (Err fails.NoMemory) h = tt
+gives_refused x (Err (fails.At place reason)) h = read_refused x (record { place = place; reason = reason }) h

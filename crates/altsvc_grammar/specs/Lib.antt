@@ -12,3 +12,4 @@ pub mod AuthorityGrammar
 pub mod ParameterGrammar
 pub mod ValueGrammar
 pub mod ValueRefusals
+pub mod Valid

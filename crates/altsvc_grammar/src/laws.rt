@@ -1,4 +1,5 @@
-ghost use Rattle.std.specs.Prelude.{◌≡◌, ℕ, List, Option, Some, None, Ok};
+ghost use Rattle.std.specs.Prelude.{◌≡◌, ℕ, List, Option, Some, Ok, Err};
+ghost use Rattle.alt_base.specs.declared.refusal.At.{At};
 ghost use Rattle.origin_values.specs.declared.host.Host.{Host};
 ghost use Rattle.altsvc_grammar.specs.declared.alt_svc.AltSvc.{AltSvc};
 ghost use Rattle.altsvc_grammar.specs.declared.refusal.AltRefusal.{AltRefusal};
@@ -7,12 +8,20 @@ ghost use Rattle.altsvc_grammar.specs.AuthorityReading.{read_authority};
 ghost use Rattle.altsvc_grammar.specs.AuthorityGrammar.{SpellsAuthority};
 ghost use Rattle.altsvc_grammar.specs.ValueReading.{read_value};
 ghost use Rattle.altsvc_grammar.specs.ValueGrammar.{SpellsValue};
-ghost use Rattle.altsvc_grammar.specs.ValueRefusals.{ValueRefusedAt};
+ghost use Rattle.altsvc_grammar.specs.ValueRefusals.{ValueRefusedAt, OneAltSvc};
 
-/// What is spelled is read, and what the table of refusals refuses is refused, at its place.
+/// What is read is spelled so, and what is refused is refused so by the table, at its place; what is spelled is read,
+/// and what the table refuses is refused.
 pub fn values_are_read()
+    ensures ok { (x : List ℕ) (v : AltSvc) → read_value x ≡ Ok v → SpellsValue x v }
+    ensures err { (x : List ℕ) (at : At AltRefusal) → read_value x ≡ Err at → ValueRefusedAt x at.place at.reason }
     ensures spelled { (x : List ℕ) (v : AltSvc) → SpellsValue x v → read_value x ≡ Ok v }
     ensures refused { (x : List ℕ) (q : ℕ) (r : AltRefusal) → ValueRefusedAt x q r → read_value x ≡ refused q r }
+{}
+
+/// Each text is exactly one value or refused at exactly one place for one reason, and never both.
+pub fn one_alt_svc()
+    ensures { (x : List ℕ) → OneAltSvc x }
 {}
 
 /// What is read as an authority is spelled so, and what is spelled is read.

@@ -1,4 +1,7 @@
-ghost use Rattle.origin_values.specs.Gives.{Gives};
+ghost use Rattle.std.specs.Prelude.{IfOk};
+ghost use Rattle.origin_values.specs.Gives.{Gives, IfRefused};
+ghost use Rattle.altsvc_grammar.specs.ValueGrammar.{SpellsValue};
+ghost use Rattle.altsvc_grammar.specs.ValueRefusals.{ValueRefusedAt};
 ghost use Rattle.altsvc_grammar.specs.ValueReading.{read_value};
 
 use crate::elements::read_elements;
@@ -21,6 +24,14 @@ const MOST_BYTES: usize = 16_384;
 /// a byte behind an element that is no comma; and last `Empty` at the length where there is no element.
 pub fn parse(alloc: Global, input: &[u8]) -> Result<AltSvc, Refused<AltRefusal>>
     ensures reading { Gives result (read_value input.now) }
+    ensures ok { IfOk result (λ value. SpellsValue input.now value) }
+    ensures refused { IfRefused result (λ place reason. ValueRefusedAt input.now place reason) }
+{
+    read_value(alloc, input)
+}
+
+fn read_value(alloc: Global, input: &[u8]) -> Result<AltSvc, Refused<AltRefusal>>
+    ensures { Gives result (read_value input.now) }
 {
     if input.len() > MOST_BYTES {
         return Err(Refused::At {
