@@ -1,0 +1,186 @@
+-- The reading of an authority against its grammar.
+use Rattle.std.proofs.Common.{◌≡◌, ◌≢◌, ◌⊎◌, ℕ, ◌+◌, ◌-◌, ◌≤◌, ◌<◌, Bool, true, false, cond, ◌&&◌, nat_eq, nat_lt, nat_le, List, [], ◌∷◌, ◌++◌, length, take, drop, Option, Some, None, option_map, refl, ap, sym, ◌∙◌, subst, arith, inl, inr}
+use Rattle.std.proofs.Math.Seq.{take-append_seam, drop-append-add}
+use Rattle.std.proofs.lemmas.Bool.Decides.{nat_tests}
+use Rattle.std.proofs.lemmas.Str.{digit_value_digit}
+use Rattle.std.proofs.lemmas.Str.Parse.{digit_from_value}
+use Rattle.std.specs.List.{list_all}
+use Rattle.std.specs.Int.{IsInRange}
+use Rattle.std.specs.Char.{is_ascii_digit, digit_value}
+use Rattle.std.specs.Str.Parse.{IsNumeral, AllDigits, digits_value}
+use Rattle.origin_values.specs.HostGrammar.{SpellsHost}
+use Rattle.origin_values.specs.HostReading.{read_host}
+use Rattle.origin_values.specs.OriginReading.{port_of}
+use Rattle.origin_values.specs.declared.host.Host.{Host}
+use Rattle.origin_values.proofs.Hosts.{read_host_complete, read_host_sound}
+use Rattle.altsvc_grammar.specs.AuthorityReading.{last_colon, read_port, read_optional_host, with_port, host_beside, split_at_colon, read_authority}
+use Rattle.altsvc_grammar.specs.AuthorityGrammar.{SpellsPort, SpellsOptionalHost, SpellsAuthority}
+
+in_range : (b : ℕ) → is_ascii_digit b ≡ true → IsInRange 48 57 b
+in_range b is = grind (arith, nat_tests)
+
+is_digit : (b : ℕ) → IsInRange 48 57 b → is_ascii_digit b ≡ true
+is_digit b is = grind (arith, nat_tests)
+
+pub all_digits : (x : List ℕ) → list_all is_ascii_digit x ≡ true → AllDigits 10 x
+all_digits [] is = tt
+all_digits (b ∷ bs) is = go (is_ascii_digit b) refl is (λ rest. all_digits bs rest)
+  where
+    go : (t : Bool) → is_ascii_digit b ≡ t → (t && list_all is_ascii_digit bs) ≡ true → (list_all is_ascii_digit bs ≡ true → AllDigits 10 bs) → (digit_value b < 10) × AllDigits 10 bs
+    go true digit rest rec =
+        let range : IsInRange 48 57 b = in_range b digit in
+        (omega (arith, digit_value_digit b range), rec rest)
+    go false digit rest rec = cc
+
+pub digits_all : (x : List ℕ) → AllDigits 10 x → list_all is_ascii_digit x ≡ true
+digits_all [] valid = refl
+digits_all (b ∷ bs) valid = rw (is_digit b (digit_from_value b valid.0)) (digits_all bs valid.1)
+
+both : (a b : Bool) → (a && b) ≡ true → (a ≡ true) × (b ≡ true)
+both true true h = (refl, refl)
+both true false h = cc
+both false b h = cc
+
+le_test : (a b : ℕ) → a ≤ b → nat_le a b ≡ true
+le_test a b h = grind arith
+
+le_fact : (a b : ℕ) → nat_le a b ≡ true → a ≤ b
+le_fact a b h = grind arith
+
+lt_test : (a b : ℕ) → a < b → nat_lt a b ≡ true
+lt_test a b h = grind arith
+
+lt_fact : (a b : ℕ) → nat_lt a b ≡ true → a < b
+lt_fact a b h = grind arith
+
+-- ports
+pub port_read : (digits : List ℕ) (port : ℕ) → SpellsPort digits port → read_port digits ≡ Some port
+port_read [] port s = absurd (omega (arith, s.numeral.0))
+port_read (b ∷ bs) port s =
+    let value : digits_value 10 (b ∷ bs) ≡ port = s.value in
+    let some : 0 < digits_value 10 (b ∷ bs) = omega (arith, s.some) in
+    let fits : digits_value 10 (b ∷ bs) < 65536 = omega (arith, s.fits) in
+    rw (le_test (length (b ∷ bs)) 5 s.short, digits_all (b ∷ bs) s.numeral.1, lt_test 0 (digits_value 10 (b ∷ bs)) some, lt_test (digits_value 10 (b ∷ bs)) 65536 fits) (ap Some value)
+
+some_is : (a b : ℕ) (t : Bool) → cond t (Some a) None ≡ Some b → (t ≡ true) × (a ≡ b)
+some_is a b true h = (refl, cc)
+some_is a b false h = cc
+
+if_some : (t : Bool) (o : Option ℕ) (b : ℕ) → cond t o None ≡ Some b → (t ≡ true) × (o ≡ Some b)
+if_some true o b h = (refl, h)
+if_some false o b h = cc
+
+pub port_spelled : (digits : List ℕ) (port : ℕ) → read_port digits ≡ Some port → SpellsPort digits port
+port_spelled [] port h = cc
+port_spelled (b ∷ bs) port h =
+    let outer = if_some (nat_le (length (b ∷ bs)) 5 && list_all is_ascii_digit (b ∷ bs)) (port_of (b ∷ bs)) port h in
+    let tests = both (nat_le (length (b ∷ bs)) 5) (list_all is_ascii_digit (b ∷ bs)) outer.0 in
+    let inner = some_is (digits_value 10 (b ∷ bs)) port (nat_lt 0 (digits_value 10 (b ∷ bs)) && nat_lt (digits_value 10 (b ∷ bs)) 65536) outer.1 in
+    let bounds = both (nat_lt 0 (digits_value 10 (b ∷ bs))) (nat_lt (digits_value 10 (b ∷ bs)) 65536) inner.0 in
+    let low : 0 < digits_value 10 (b ∷ bs) = lt_fact 0 (digits_value 10 (b ∷ bs)) bounds.0 in
+    let high : digits_value 10 (b ∷ bs) < 65536 = lt_fact (digits_value 10 (b ∷ bs)) 65536 bounds.1 in
+    let value : digits_value 10 (b ∷ bs) ≡ port = inner.1 in
+    record {
+      numeral = (omega arith, all_digits (b ∷ bs) tests.1);
+      short = le_fact (length (b ∷ bs)) 5 tests.0;
+      value = value;
+      some = omega arith;
+      fits = omega arith;
+    }
+
+-- hosts
+pub optional_host_read : (text : List ℕ) (host : Option Host) → SpellsOptionalHost text host → read_optional_host text ≡ Some host
+optional_host_read text None s = ap read_optional_host s
+optional_host_read text (Some host) s = go text (read_host_complete text host s)
+  where
+    go : (xs : List ℕ) → read_host xs ≡ Some host → read_optional_host xs ≡ Some (Some host)
+    go [] h = cc
+    go (b ∷ bs) h = ap (option_map Some) h
+
+pub optional_host_spelled : (text : List ℕ) (host : Option Host) → read_optional_host text ≡ Some host → SpellsOptionalHost text host
+optional_host_spelled [] None h = refl
+optional_host_spelled [] (Some host) h = cc
+optional_host_spelled (b ∷ bs) host h = go (read_host (b ∷ bs)) refl host h
+  where
+    go : (r : Option Host) → read_host (b ∷ bs) ≡ r → (host : Option Host) → option_map Some r ≡ Some host → SpellsOptionalHost (b ∷ bs) host
+    go None is host h = cc
+    go (Some found) is None h = cc
+    go (Some found) is (Some host) h = let e : found ≡ host = cc in read_host_sound (b ∷ bs) host (is ∙ ap Some e)
+
+-- the last colon
+digit_no_colon : (b : ℕ) → digit_value b < 10 → nat_eq b 58 ≡ false
+digit_no_colon b h = let range = digit_from_value b h in no b range
+  where
+    no : (b : ℕ) → IsInRange 48 57 b → nat_eq b 58 ≡ false
+    no b h = grind (arith, nat_tests)
+
+no_colon : (digits : List ℕ) (p : ℕ) (found : Option ℕ) → AllDigits 10 digits → last_colon p found digits ≡ found
+no_colon [] p found valid = refl
+no_colon (b ∷ bs) p found valid = rw (digit_no_colon b valid.0) (no_colon bs (p + 1) found valid.1)
+
+pub colon_found : (front : List ℕ) (p : ℕ) (found : Option ℕ) (digits : List ℕ) → AllDigits 10 digits → last_colon p found (front ++ 58 ∷ digits) ≡ Some (p + length front)
+colon_found [] p found digits valid = no_colon digits (p + 1) (Some p) valid ∙ ap Some (omega arith)
+colon_found (b ∷ bs) p found digits valid = colon_found bs (p + 1) (cond (nat_eq b 58) (Some p) found) digits valid ∙ ap Some (omega arith)
+
+at_colon : (front digits : List ℕ) → split_at_colon (front ++ 58 ∷ digits) (Some (length front)) ≡ host_beside front (read_port digits)
+at_colon front digits = rw (take-append_seam front (58 ∷ digits), drop-append-add front (58 ∷ digits) 1) refl
+
+pub authority_read : (text : List ℕ) (host : Option Host) (port : ℕ) → SpellsAuthority text host port → read_authority text ≡ Some (host, port)
+authority_read text host port s =
+    let found : last_colon 0 None (s.front ++ 58 ∷ s.digits) ≡ Some (length s.front) = colon_found s.front 0 None s.digits s.of_port.numeral.1 ∙ ap Some (omega arith) in
+    ap read_authority s.spelled ∙ ap (split_at_colon (s.front ++ 58 ∷ s.digits)) found ∙ at_colon s.front s.digits
+    ∙ rw (port_read s.digits port s.of_port, optional_host_read s.front host s.of_host) refl
+
+-- where the last colon of a text stands, if there is one
+record AtColon (p : ℕ) (found : Option ℕ) (x : List ℕ) : Type 0 where
+  front : List ℕ
+  digits : List ℕ
+  text : x ≡ front ++ 58 ∷ digits
+  place : last_colon p found x ≡ Some (p + length front)
+
+colon_view : (x : List ℕ) (p : ℕ) (found : Option ℕ) → (last_colon p found x ≡ found) ⊎ AtColon p found x
+colon_view [] p found = inl refl
+colon_view (b ∷ bs) p found = go (nat_eq b 58) refl (colon_view bs (p + 1) (Some p)) (colon_view bs (p + 1) found)
+  where
+    eq_fact : (a : ℕ) → nat_eq a 58 ≡ true → a ≡ 58
+    eq_fact a h = grind arith
+
+    later : (other : Option ℕ) → AtColon (p + 1) other bs → cond (nat_eq b 58) (Some p) found ≡ other → AtColon p found (b ∷ bs)
+    later other a is = record { front = b ∷ a.front; digits = a.digits; text = ap (λ xs. b ∷ xs) a.text; place = rw is (a.place ∙ ap Some (omega arith)) }
+
+    go : (t : Bool) → nat_eq b 58 ≡ t → (last_colon (p + 1) (Some p) bs ≡ Some p) ⊎ AtColon (p + 1) (Some p) bs → (last_colon (p + 1) found bs ≡ found) ⊎ AtColon (p + 1) found bs → (last_colon p found (b ∷ bs) ≡ found) ⊎ AtColon p found (b ∷ bs)
+    go true is (inl e) other = inr (record { front = []; digits = bs; text = ap (λ c. c ∷ bs) (eq_fact b is); place = rw is (e ∙ ap Some (omega arith)) })
+    go true is (inr a) other = inr (later (Some p) a (rw is refl))
+    go false is one (inl e) = inl (rw is e)
+    go false is one (inr a) = inr (later found a (rw is refl))
+
+beside_spelled : (text front digits : List ℕ) (r : Option ℕ) (host : Option Host) (port : ℕ) → text ≡ front ++ 58 ∷ digits → read_port digits ≡ r → host_beside front r ≡ Some (host, port) → SpellsAuthority text host port
+beside_spelled text front digits None host port e is h = cc
+beside_spelled text front digits (Some found) host port e is h = go (read_optional_host front) refl h
+  where
+    go : (o : Option (Option Host)) → read_optional_host front ≡ o → with_port found o ≡ Some (host, port) → SpellsAuthority text host port
+    go None is_o h = cc
+    go (Some other) is_o h =
+        let read : Option Host × ℕ = (other, found) in
+        let meant : Option Host × ℕ = (host, port) in
+        let same : read ≡ meant = cc in
+        let same_host : other ≡ host = ap (λ (q : Option Host × ℕ). q.0) same in
+        let same_port : found ≡ port = ap (λ (q : Option Host × ℕ). q.1) same in
+        record { front = front; digits = digits; spelled = e; of_host = optional_host_spelled front host (is_o ∙ ap Some same_host); of_port = port_spelled digits port (is ∙ ap Some same_port) }
+
+pub authority_spelled : (text : List ℕ) (host : Option Host) (port : ℕ) → read_authority text ≡ Some (host, port) → SpellsAuthority text host port
+authority_spelled text host port h = go (colon_view text 0 None)
+  where
+    go : (last_colon 0 None text ≡ None) ⊎ AtColon 0 None text → SpellsAuthority text host port
+    go (inl none) = let e : split_at_colon text None ≡ Some (host, port) = sym (ap (split_at_colon text) none) ∙ h in cc
+    go (inr a) =
+        let place : last_colon 0 None text ≡ Some (length a.front) = a.place ∙ ap Some (omega arith) in
+        let said : read_authority text ≡ host_beside a.front (read_port a.digits) = ap (split_at_colon text) place ∙ ap (λ xs. split_at_colon xs (Some (length a.front))) a.text ∙ at_colon a.front a.digits in
+        beside_spelled text a.front a.digits (read_port a.digits) host port a.text refl (sym said ∙ h)
+
+pub no_authority : (text : List ℕ) → ((host : Option Host) (port : ℕ) → SpellsAuthority text host port → ⊥) → read_authority text ≡ None
+no_authority text none = go (read_authority text) refl
+  where
+    go : (r : Option (Option Host × ℕ)) → read_authority text ≡ r → r ≡ None
+    go None is = refl
+    go (Some found) is = absurd (none found.0 found.1 (authority_spelled text found.0 found.1 is))

@@ -1,0 +1,15 @@
+pub mod Slices
+pub mod ParameterLemmas
+pub mod ProtocolLemmas
+pub mod KeptLemmas
+pub mod ElementLemmas
+pub mod Spelling
+pub mod Percents
+pub mod SpelledParameters
+pub mod Authorities
+pub mod SpelledElements
+pub mod SpelledValues
+pub mod Meanings
+pub mod RefusedValues
+pub mod EveryElement
+pub mod EveryValue

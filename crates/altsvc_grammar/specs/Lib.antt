@@ -1,0 +1,15 @@
+pub mod Steps
+pub mod Keys
+pub mod Written
+pub mod Shown
+pub mod ProtocolReading
+pub mod AuthorityReading
+pub mod ParameterReading
+pub mod ValueReading
+pub mod SeenElements
+pub mod UsedReading
+pub mod AuthorityGrammar
+pub mod ParameterGrammar
+pub mod ValueGrammar
+pub mod ValueRefusals
+pub mod Valid
