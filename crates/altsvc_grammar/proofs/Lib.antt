@@ -13,3 +13,5 @@ pub mod Meanings
 pub mod RefusedValues
 pub mod EveryElement
 pub mod EveryValue
+pub mod QuotedHosts
+pub mod WrittenValues
