@@ -15,3 +15,4 @@ pub mod EveryElement
 pub mod EveryValue
 pub mod QuotedHosts
 pub mod WrittenValues
+pub mod UsedValues
