@@ -13,3 +13,6 @@ pub mod Meanings
 pub mod RefusedValues
 pub mod EveryElement
 pub mod EveryValue
+pub mod QuotedHosts
+pub mod WrittenValues
+pub mod UsedValues

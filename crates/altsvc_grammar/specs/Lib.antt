@@ -13,3 +13,4 @@ pub mod ParameterGrammar
 pub mod ValueGrammar
 pub mod ValueRefusals
 pub mod Valid
+pub mod UsedGrammar

@@ -1,13 +1,17 @@
-ghost use Rattle.std.specs.Prelude.{◌≡◌, ℕ, List, Option, Some, Ok, Err};
+ghost use Rattle.std.specs.Prelude.{◌≡◌, ◌≤◌, ◌↔◌, ℕ, true, List, length, Option, Some, Ok, Err};
 ghost use Rattle.alt_base.specs.declared.refusal.At.{At};
 ghost use Rattle.origin_values.specs.declared.host.Host.{Host};
 ghost use Rattle.altsvc_grammar.specs.declared.alt_svc.AltSvc.{AltSvc};
 ghost use Rattle.altsvc_grammar.specs.declared.refusal.AltRefusal.{AltRefusal};
+ghost use Rattle.altsvc_grammar.specs.declared.alt_key.AltKey.{AltKey};
+ghost use Rattle.altsvc_grammar.specs.Keys.{key_eq};
 ghost use Rattle.altsvc_grammar.specs.Steps.{refused};
+ghost use Rattle.altsvc_grammar.specs.Valid.{IsAltSvc};
+ghost use Rattle.altsvc_grammar.specs.Written.{value_text};
 ghost use Rattle.altsvc_grammar.specs.AuthorityReading.{read_authority};
 ghost use Rattle.altsvc_grammar.specs.AuthorityGrammar.{SpellsAuthority};
 ghost use Rattle.altsvc_grammar.specs.ValueReading.{read_value};
-ghost use Rattle.altsvc_grammar.specs.ValueGrammar.{SpellsValue};
+ghost use Rattle.altsvc_grammar.specs.ValueGrammar.{SpellsValue, most_value_bytes};
 ghost use Rattle.altsvc_grammar.specs.ValueRefusals.{ValueRefusedAt, OneAltSvc};
 
 /// What is read is spelled so, and what is refused is refused so by the table, at its place; what is spelled is read,
@@ -28,4 +32,15 @@ pub fn one_alt_svc()
 pub fn authorities_are_read()
     ensures read { (text : List ℕ) (host : Option Host) (port : ℕ) → read_authority text ≡ Some (host, port) → SpellsAuthority text host port }
     ensures spelled { (text : List ℕ) (host : Option Host) (port : ℕ) → SpellsAuthority text host port → read_authority text ≡ Some (host, port) }
+{}
+
+/// The text that a value is written as spells it, and is read back as it, where it has at most 16,384 bytes.
+pub fn written_values_are_read_back()
+    ensures spelled { (v : AltSvc) → IsAltSvc v → length (value_text v) ≤ most_value_bytes → SpellsValue (value_text v) v }
+    ensures back { (v : AltSvc) → IsAltSvc v → length (value_text v) ≤ most_value_bytes → read_value (value_text v) ≡ Ok v }
+{}
+
+/// The test of two keys holds exactly where they are one.
+pub fn one_key_where_equal()
+    ensures { (a b : AltKey) → (key_eq a b ≡ true) ↔ (a ≡ b) }
 {}

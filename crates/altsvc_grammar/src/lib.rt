@@ -25,7 +25,10 @@ mod written;
 pub use alt::{Alt, Alts};
 pub use alt_key::AltKey;
 pub use alt_svc::AltSvc;
-pub use laws::{authorities_are_read, one_alt_svc, values_are_read};
+pub use laws::{
+    authorities_are_read, one_alt_svc, one_key_where_equal, values_are_read,
+    written_values_are_read_back,
+};
 pub use refusal::{AltRefusal, UsedRefusal};
 pub use show::show_text;
 pub use used::{parse_alt_used, write_alt_used};
