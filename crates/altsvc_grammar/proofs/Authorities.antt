@@ -89,12 +89,16 @@ port_spelled (b ∷ bs) port h =
     }
 
 -- hosts
+no_empty_host : read_host [] ≡ None
+unfolding read_host
+no_empty_host = refl
+
 pub optional_host_read : (text : List ℕ) (host : Option Host) → SpellsOptionalHost text host → read_optional_host text ≡ Some host
 optional_host_read text None s = ap read_optional_host s
 optional_host_read text (Some host) s = go text (read_host_complete text host s)
   where
     go : (xs : List ℕ) → read_host xs ≡ Some host → read_optional_host xs ≡ Some (Some host)
-    go [] h = cc
+    go [] h = let e : None ≡ Some host = sym no_empty_host ∙ h in cc
     go (b ∷ bs) h = ap (option_map Some) h
 
 pub optional_host_spelled : (text : List ℕ) (host : Option Host) → read_optional_host text ≡ Some host → SpellsOptionalHost text host
