@@ -5,10 +5,7 @@ use Rattle.alt_base.specs.Devices.{Took, Grew, IsAtEnd}
 use Rattle.alt_base.specs.Faults.{Rose}
 use Rattle.altroute_program.specs.declared.status.Status.{Status}
 use Rattle.altroute_program.specs.declared.status.Status.TheVariants.{Done, Refused, Usage, ReadFault, WriteFault, NoMemory, TooLong}
-use Rattle.altroute_program.specs.declared.command.Command.{Command}
-use Rattle.altroute_program.specs.declared.command.Command.TheVariants.{Replay}
 use Rattle.altroute_program.specs.Outcome.{Stop, AtRefused, AtLongLine, AtLongInput, outcome, text_of, stop_of}
-use Rattle.altroute_program.specs.Commands.{command_of}
 
 -- what a source and a sink tell, whether the source has answered its end, and their counts of faults
 pub record Seen : Type 0 where
@@ -82,15 +79,3 @@ ReplayEnds ReadFault old new = (bytes : List ℕ) × IsReadFault old new bytes
 ReplayEnds WriteFault old new = IsWriteFault old new
 ReplayEnds NoMemory old new = IsNoMemory old new
 ReplayEnds TooLong old new = (bytes : List ℕ) × (IsStopped old new bytes false AtLongLine ⊎ IsStopped old new bytes false AtLongInput)
-
--- the statuses of a run: where the words are no command, nothing is read or written
-abbrev pub RunEnds : Option Command → Status → Seen → Seen → Type 0
-RunEnds (Some Replay) status old new = ReplayEnds status old new
-RunEnds None status old new = (status ≡ Usage) × (new ≡ old)
-
--- a run is done, where its input is valid and neither device fails, or memory isn't found
-abbrev pub IsComplete : Option Command → Status → Seen → Seen → Type 0
-IsComplete (Some Replay) status old new =
-    (input : List ℕ) → old.left ≡ Some input → stop_of (outcome input true) ≡ None
-    → (Rose old.read_faults new.read_faults → ⊥) → (Rose old.write_faults new.write_faults → ⊥) → (status ≡ Done) ⊎ (status ≡ NoMemory)
-IsComplete None status old new = Unit {0}

@@ -5,3 +5,6 @@ pub mod Texts
 pub mod Outcome
 pub mod Ends
 pub mod Reached
+pub mod Given
+pub mod WholeInput
+pub mod Runs

@@ -6,7 +6,10 @@ use alt_base::Words;
 /// What the words of the command line ask for.
 #[derive(Clone, Copy, Debug, PartialEq, Eq)]
 pub enum Command {
+    /// Reads event lines and writes the lines of their actions.
     Replay,
+    /// Reads one Alt-Svc field value and writes a line for each alternative.
+    ShowAltSvc,
 }
 
 /// The command that some words are, if they are one.
@@ -17,6 +20,13 @@ pub fn command_of(words: &Words) -> Option<Command>
         [word] => {
             if word.as_slice() == b"replay".as_slice() {
                 Some(Command::Replay)
+            } else {
+                None
+            }
+        }
+        [word, second] => {
+            if word.as_slice() == b"show".as_slice() && second.as_slice() == b"altsvc".as_slice() {
+                Some(Command::ShowAltSvc)
             } else {
                 None
             }

@@ -3,16 +3,21 @@
 
 mod answers;
 mod command;
+mod give;
+mod given;
 mod laws;
 mod replay;
 mod run;
+mod show_altsvc;
 mod state;
 mod status;
 mod texts;
 mod turns;
+mod whole_input;
 
 use alt_base::{ListOf, StdSink, StdSource, Words};
 pub use command::{Command, command_of};
+pub use given::Given;
 pub use laws::{lines_are_bytes, stop_stays, text_grows};
 pub use run::run;
 pub use status::Status;

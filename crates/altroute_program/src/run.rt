@@ -1,8 +1,10 @@
 ghost use Rattle.altroute_program.specs.Commands.{command_of};
-ghost use Rattle.altroute_program.specs.Ends.{Seen, RunEnds, IsComplete};
+ghost use Rattle.altroute_program.specs.Ends.{Seen};
+ghost use Rattle.altroute_program.specs.Runs.{RunEnds, IsComplete};
 
 use crate::Status;
 use crate::command::{Command, command_of};
+use crate::show_altsvc::show_altsvc;
 use crate::turns::replay;
 use alt_base::{Sink, Source, Words};
 use std::alloc::Global;
@@ -23,6 +25,7 @@ pub fn run<S: Source, K: Sink>(alloc: Global, words: &Words, source: &mut S, sin
 {
     match command_of(words) {
         Some(Command::Replay) => replay(alloc, source, sink),
+        Some(Command::ShowAltSvc) => show_altsvc(alloc, source, sink),
         None => Status::Usage,
     }
 }

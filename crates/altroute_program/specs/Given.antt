@@ -1,0 +1,43 @@
+-- What the commands that read their whole input write for it.
+use Rattle.std.specs.Prelude.{ℕ, ◌-◌, List, ◌++◌, length, take, get_or, codes, nat_eq, Result, Ok, Err, if◌then◌else◌}
+use Rattle.std.specs.Fmt.{decimal}
+use Rattle.alt_base.specs.declared.refusal.At.{At}
+use Rattle.altsvc_grammar.specs.declared.alt_svc.AltSvc.{AltSvc}
+use Rattle.altsvc_grammar.specs.declared.refusal.AltRefusal.{AltRefusal}
+use Rattle.altsvc_grammar.specs.declared.refusal.AltRefusal.TheVariants.{Empty, BadToken, BadPercent, NoEquals, BadQuoted, BadAuthority, BadParameter, Trailing, TooLong}
+use Rattle.altsvc_grammar.specs.ValueReading.{read_value}
+use Rattle.altsvc_grammar.specs.Shown.{show_lines}
+use Rattle.altroute_program.specs.declared.given.Given.{Given}
+use Rattle.altroute_program.specs.declared.given.Given.TheVariants.{Shown, Refused}
+
+-- the input without the one newline that may end it
+abbrev pub without_newline : List ℕ → List ℕ
+without_newline input = if nat_eq (get_or input (length input - 1) 0) 10 then take (length input - 1) input else input
+
+-- the line of a decoder's refusal, by its number and its place
+abbrev pub refused_at : ℕ → ℕ → List ℕ
+refused_at number place = codes "refused " ++ decimal number ++ codes " at " ++ decimal place ++ codes "\n"
+
+-- the text that is written
+abbrev pub given_text : Given → List ℕ
+given_text (Shown text) = text
+given_text (Refused text) = text
+
+-- `show altsvc`: a line for each alternative, or `clear`
+abbrev pub altsvc_refusal_number : AltRefusal → ℕ
+altsvc_refusal_number Empty = 1
+altsvc_refusal_number BadToken = 2
+altsvc_refusal_number BadPercent = 3
+altsvc_refusal_number NoEquals = 4
+altsvc_refusal_number BadQuoted = 5
+altsvc_refusal_number BadAuthority = 6
+altsvc_refusal_number BadParameter = 7
+altsvc_refusal_number Trailing = 8
+altsvc_refusal_number TooLong = 9
+
+abbrev pub altsvc_reading_given : Result AltSvc (At AltRefusal) → Given
+altsvc_reading_given (Ok value) = Shown (show_lines value)
+altsvc_reading_given (Err at) = Refused (refused_at (altsvc_refusal_number at.reason) at.place)
+
+abbrev pub altsvc_given : List ℕ → Given
+altsvc_given input = altsvc_reading_given (read_value (without_newline input))
