@@ -16,3 +16,4 @@ pub mod EveryValue
 pub mod QuotedHosts
 pub mod WrittenValues
 pub mod UsedValues
+pub mod EveryUsed

@@ -52,7 +52,7 @@ plain_at (b ∷ bs) tail h e =
     let t = either_false (nat_eq b 58) (list_any (λ c. nat_eq c 58) bs) h in
     rw (t.0, plain_at bs tail t.1 e) (omega arith)
 
-end_at : (run tail : List ℕ) → IsHostRun run tail → used_host_end (run ++ tail) ≡ Some (length run)
+pub end_at : (run tail : List ℕ) → IsHostRun run tail → used_host_end (run ++ tail) ≡ Some (length run)
 end_at run tail (inl b) =
     ap (λ xs. used_host_end (xs ++ tail)) b.spelled
     ∙ ap (option_map (λ n. n + 1)) (bracket_at b.inner tail b.first)
@@ -65,7 +65,7 @@ end_at [] (b ∷ bs) (inr p) = go p.longest
     go (inr e) = ap (λ c. used_host_end (c ∷ bs)) (eq_fact b 58 e)
 end_at (b ∷ bs) tail (inr p) = rw p.no_bracket (ap Some (plain_at (b ∷ bs) tail p.inside p.longest))
 
-taken : (run tail : List ℕ) → take (length run) (run ++ tail) ≡ run
+pub taken : (run tail : List ℕ) → take (length run) (run ++ tail) ≡ run
 taken run tail = take-append_seam run tail
 
 dropped : (run tail : List ℕ) → drop (length run) (run ++ tail) ≡ tail
@@ -100,7 +100,7 @@ at_port : (host : Host) (p : ℕ) (digits rest : List ℕ) (port : ℕ) → AllI
 at_port host p digits rest port h none s =
     at_digits host p digits rest h none ∙ ap (used_port host (p + 1) (length digits) (digits ++ rest)) (port_read digits port s) ∙ ap (used_at_end host port (p + 1 + length digits)) (dropped digits rest)
 
-append_none : (xs : List ℕ) → xs ++ [] ≡ xs
+pub append_none : (xs : List ℕ) → xs ++ [] ≡ xs
 append_none [] = refl
 append_none (b ∷ bs) = ap (λ ys. b ∷ ys) (append_none bs)
 
@@ -126,11 +126,11 @@ pub used_spelled : (x : List ℕ) (used : Host × ℕ) → SpellsUsed x used →
 used_spelled x used s = ap read_used s.text ∙ at_host s.run s.tail used.0 s.is_run s.of_host ∙ tail_read used.0 (length s.run) s.tail used.1 s.of_port
 
 -- each text has a host's run in front, or an open bracket
-record RunFront (x : List ℕ) : Type 0 where
-  run : List ℕ
-  tail : List ℕ
-  text : x ≡ run ++ tail
-  is_run : IsHostRun run tail
+pub record RunFront (x : List ℕ) : Type 0 where
+  pub run : List ℕ
+  pub tail : List ℕ
+  pub text : x ≡ run ++ tail
+  pub is_run : IsHostRun run tail
 
 record BracketFront (x : List ℕ) : Type 0 where
   inner : List ℕ
@@ -166,7 +166,7 @@ front_bracket : (x run tail : List ℕ) → x ≡ run ++ tail → begins_with 91
 front_bracket x [] tail e h = refl
 front_bracket x (b ∷ bs) tail e h = subst (λ xs. begins_with 91 xs ≡ false) e h
 
-run_front : (x : List ℕ) → (used_host_end x ≡ None) ⊎ RunFront x
+pub run_front : (x : List ℕ) → (used_host_end x ≡ None) ⊎ RunFront x
 run_front [] = inr (record { run = []; tail = []; text = refl; is_run = inr (record { inside = refl; no_bracket = refl; longest = inl refl }) })
 run_front (b ∷ bs) = go (nat_eq b 91) refl
   where

@@ -6,6 +6,9 @@ ghost use Rattle.altsvc_grammar.specs.declared.refusal.AltRefusal.{AltRefusal};
 ghost use Rattle.altsvc_grammar.specs.declared.alt_key.AltKey.{AltKey};
 ghost use Rattle.altsvc_grammar.specs.Keys.{key_eq};
 ghost use Rattle.altsvc_grammar.specs.Steps.{refused};
+ghost use Rattle.altsvc_grammar.specs.UsedGrammar.{SpellsUsed, UsedRefusedAt, OneUsed};
+ghost use Rattle.altsvc_grammar.specs.UsedReading.{read_used, used_refused};
+ghost use Rattle.altsvc_grammar.specs.declared.refusal.UsedRefusal.{UsedRefusal};
 ghost use Rattle.altsvc_grammar.specs.Valid.{IsAltSvc};
 ghost use Rattle.altsvc_grammar.specs.Written.{value_text};
 ghost use Rattle.altsvc_grammar.specs.AuthorityReading.{read_authority};
@@ -43,4 +46,18 @@ pub fn written_values_are_read_back()
 /// The test of two keys holds exactly where they are one.
 pub fn one_key_where_equal()
     ensures { (a b : AltKey) → (key_eq a b ≡ true) ↔ (a ≡ b) }
+{}
+
+/// What is read as a value of Alt-Used is spelled so, and what is refused is refused so by the table, at its place; what
+/// is spelled is read, and what the table refuses is refused.
+pub fn used_values_are_read()
+    ensures ok { (x : List ℕ) (used : Host × ℕ) → read_used x ≡ Ok used → SpellsUsed x used }
+    ensures err { (x : List ℕ) (at : At UsedRefusal) → read_used x ≡ Err at → UsedRefusedAt x at.place at.reason }
+    ensures spelled { (x : List ℕ) (used : Host × ℕ) → SpellsUsed x used → read_used x ≡ Ok used }
+    ensures refused { (x : List ℕ) (q : ℕ) (r : UsedRefusal) → UsedRefusedAt x q r → read_used x ≡ used_refused q r }
+{}
+
+/// Each text is exactly one value of Alt-Used or refused at exactly one place for one reason, and never both.
+pub fn one_alt_used()
+    ensures { (x : List ℕ) → OneUsed x }
 {}

@@ -26,7 +26,8 @@ pub use alt::{Alt, Alts};
 pub use alt_key::AltKey;
 pub use alt_svc::AltSvc;
 pub use laws::{
-    authorities_are_read, one_alt_svc, one_key_where_equal, values_are_read,
+    authorities_are_read, one_alt_svc, one_alt_used, one_key_where_equal, used_values_are_read,
+    values_are_read,
     written_values_are_read_back,
 };
 pub use refusal::{AltRefusal, UsedRefusal};
