@@ -92,9 +92,11 @@ value_outcome n z name w text valid short = go (token_front w)
   where
     inside : length w ≤ n
     inside = omega (arith, ap length text, length-append name (61 ∷ w))
+
     quoted : (BeginsIn is_token w → ⊥) → QuotedFront w ⊎ QuotedRefused n w → ParameterOutcome n z
     quoted none (inl t) = inl (record { name = name; value = Quoted t.parts; rest = t.rest; text = text ∙ ap (λ xs. name ++ 61 ∷ xs) t.text; is_name = valid; valid = t.valid; ends = tt })
     quoted none (inr t) = inr (t.q, inr (inr (record { name = name; rest = w; p = t.p; reason = t.reason; text = text; is_name = valid; no_token = none; from = t.from; refused = t.refused })))
+
     go : TokenFront w ⊎ (BeginsIn is_token w → ⊥) → ParameterOutcome n z
     go (inl t) = inl (record { name = name; value = Token t.token; rest = t.rest; text = text ∙ ap (λ xs. name ++ 61 ∷ xs) t.text; is_name = valid; valid = t.valid; ends = t.longest })
     go (inr none) = quoted none (quoted_front n w inside)
@@ -105,6 +107,7 @@ parameter_outcome n z short blank = go (token_front z)
     named : (t : TokenFront z) → (b : Bool) → begins_with 61 t.rest ≡ b → ParameterOutcome n z
     named t true is = let e = begins_is 61 t.rest is in value_outcome n z t.token e.0 (t.text ∙ ap (λ xs. t.token ++ xs) e.1) t.valid short
     named t false is = inr (n - length t.rest, inr (inl (record { name = t.token; rest = t.rest; text = t.text; is_name = t.valid; no_token = t.longest; no_equals = is; place = omega (arith, ap length t.text, length-append t.token t.rest) })))
+
     go : TokenFront z ⊎ (BeginsIn is_token z → ⊥) → ParameterOutcome n z
     go (inl t) = named t (begins_with 61 t.rest) refl
     go (inr none) = inr (n - length z, inl (record { no_token = none; no_blank = blank; place = omega arith }))
@@ -154,24 +157,36 @@ parameters_outcome (suc k) n w small short = go (blanks_front w) (λ v less with
   where
     Rest : Type 0
     Rest = (v : List ℕ) → length v < k → length v ≤ n → ParametersFront v ⊎ ParametersRefused n v
+
     further : (b : BlanksFront w) (y : List ℕ) → b.rest ≡ 59 ∷ y → (c : BlanksFront y) (f : ParameterFront c.rest) → ParametersFront f.rest ⊎ ParametersRefused n f.rest → ParametersFront w ⊎ ParametersRefused n w
     further b y e c f (inl r) =
         let p : Parameter = record { before = b.blanks; after = c.blanks; name = f.name; value = f.value } in
         inl (record {
-          ps = p ∷ r.ps; back = r.back; tail = r.tail;
+          ps = p ∷ r.ps;
+          back = r.back;
+          tail = r.tail;
           text = b.text ∙ ap (λ xs. b.blanks ++ xs) (e ∙ ap (λ xs. 59 ∷ xs) (c.text ∙ ap (λ xs. c.blanks ++ xs) (f.text ∙ ap (λ xs. f.name ++ 61 ∷ value_then f.value xs) r.text)));
           valid = (record { before = b.valid; after = c.valid; name = f.is_name; value = f.valid }, r.valid);
-          blanks = r.blanks; no_blank = r.no_blank; no_semicolon = r.no_semicolon;
+          blanks = r.blanks;
+          no_blank = r.no_blank;
+          no_semicolon = r.no_semicolon;
           ends = ends_more p r.ps f.rest (r.back ++ r.tail) r.text f.ends r.ends;
         })
     further b y e c f (inr r) =
         let p : Parameter = record { before = b.blanks; after = c.blanks; name = f.name; value = f.value } in
         inr (record {
-          ps = p ∷ r.ps; before = r.before; after = r.after; z = r.z; q = r.q;
+          ps = p ∷ r.ps;
+          before = r.before;
+          after = r.after;
+          z = r.z;
+          q = r.q;
           text = b.text ∙ ap (λ xs. b.blanks ++ xs) (e ∙ ap (λ xs. 59 ∷ xs) (c.text ∙ ap (λ xs. c.blanks ++ xs) (f.text ∙ ap (λ xs. f.name ++ 61 ∷ value_then f.value xs) r.text)));
           valid = (record { before = b.valid; after = c.valid; name = f.is_name; value = f.valid }, r.valid);
-          blanks_before = r.blanks_before; blanks_after = r.blanks_after; refused = r.refused;
+          blanks_before = r.blanks_before;
+          blanks_after = r.blanks_after;
+          refused = r.refused;
         })
+
     one : (b : BlanksFront w) (y : List ℕ) → b.rest ≡ 59 ∷ y → (c : BlanksFront y) → ParameterOutcome n c.rest → Rest → ParametersFront w ⊎ ParametersRefused n w
     one b y e c (inl f) rest =
         let smaller : length f.rest < length w = omega (arith, ap length b.text, length-append b.blanks b.rest, ap length e, ap length c.text, length-append c.blanks c.rest, ap length f.text, length-append f.name (61 ∷ value_then f.value f.rest), value_length f.value f.rest) in
@@ -179,10 +194,18 @@ parameters_outcome (suc k) n w small short = go (blanks_front w) (λ v less with
         let within : length f.rest ≤ n = omega arith in
         further b y e c f (rest f.rest less within)
     one b y e c (inr f) rest = inr (record {
-      ps = []; before = b.blanks; after = c.blanks; z = c.rest; q = f.0;
+      ps = [];
+      before = b.blanks;
+      after = c.blanks;
+      z = c.rest;
+      q = f.0;
       text = b.text ∙ ap (λ xs. b.blanks ++ xs) (e ∙ ap (λ xs. 59 ∷ xs) c.text);
-      valid = tt; blanks_before = b.valid; blanks_after = c.valid; refused = f.1;
+      valid = tt;
+      blanks_before = b.valid;
+      blanks_after = c.valid;
+      refused = f.1;
     })
+
     semicolon : (b : BlanksFront w) → (t : Bool) → begins_with 59 b.rest ≡ t → Rest → ParametersFront w ⊎ ParametersRefused n w
     semicolon b false is rest = inl (record { ps = []; back = b.blanks; tail = b.rest; text = b.text; valid = tt; blanks = b.valid; no_blank = b.longest; no_semicolon = is; ends = tt })
     semicolon b true is rest =
@@ -190,6 +213,7 @@ parameters_outcome (suc k) n w small short = go (blanks_front w) (λ v less with
         let c = blanks_front e.0 in
         let inside : length c.rest ≤ n = omega (arith, ap length b.text, length-append b.blanks b.rest, ap length e.1, ap length c.text, length-append c.blanks c.rest) in
         one b e.0 e.1 c (parameter_outcome n c.rest inside c.longest) rest
+
     go : BlanksFront w → Rest → ParametersFront w ⊎ ParametersRefused n w
     go b rest = semicolon b (begins_with 59 b.rest) refl rest
 
@@ -234,11 +258,14 @@ token_small b h = go (nat_lt b 256) refl
   where
     lt_fact : (a c : ℕ) → nat_lt a c ≡ true → a < c
     lt_fact a c i = grind arith
+
     ge_fact : (a c : ℕ) → nat_lt a c ≡ false → c ≤ a
     ge_fact a c i = grind arith
+
     large : 256 ≤ b → is_token b ≡ false
     large i = rw (not_below b 33 (omega arith) i, not_below b 39 (omega arith) i, not_below b 43 (omega arith) i, not_below b 46 (omega arith) i, not_below b 57 (omega arith) i, not_below b 90 (omega arith) i, not_below b 122 (omega arith) i, not_below b 124 (omega arith) i, not_below b 126 (omega arith) i)
         (rw (and_none (nat_le 33 b), and_none (nat_le 35 b), and_none (nat_le 42 b), and_none (nat_le 45 b), and_none (nat_le 48 b), and_none (nat_le 65 b), and_none (nat_le 94 b), and_none (nat_le 124 b), and_none (nat_le 126 b)) refl)
+
     go : (t : Bool) → nat_lt b 256 ≡ t → b < 256
     go true is = lt_fact b 256 is
     go false is = absurd (both_ways (is_token b) h (large (ge_fact b 256 is)))
@@ -269,6 +296,7 @@ protocol_outcome (suc k) (b ∷ bs) small valid = go (nat_eq b 37) refl (λ t le
   where
     Rest : Type 0
     Rest = (t : List ℕ) → length t < k → AllIn is_token t → Decoded t ⊎ BadPercentIn t
+
     percent : b ≡ 37 → (t : Bool) → is_coded bs ≡ t → Rest → Decoded (b ∷ bs) ⊎ BadPercentIn (b ∷ bs)
     percent e false is rest = inr (record { good = []; more = bs; bytes = All-nil (λ c. c < 256); text = ap (λ c. c ∷ bs) e; in_token = valid.1; bad = λ byte after below f. both_ways (is_coded bs) (coded_from byte after bs below f) is })
     percent e true is rest =
@@ -277,6 +305,7 @@ protocol_outcome (suc k) (b ∷ bs) small valid = go (nat_eq b 37) refl (λ t le
         let less : length c.after < k = omega (arith, ap length c.text, length-append (encoded_byte c.byte) c.after, byte_length c.byte) in
         let are : AllIn is_token c.after = all_tail is_token (encoded_byte c.byte) c.after (subst (AllIn is_token) text valid) in
         coded_more (b ∷ bs) c.byte c.after c.small text (rest c.after less are)
+
     go : (t : Bool) → nat_eq b 37 ≡ t → Rest → Decoded (b ∷ bs) ⊎ BadPercentIn (b ∷ bs)
     go true is rest = percent (eq_fact b 37 is) (is_coded bs) refl rest
     go false is rest = plain_more b bs valid.0 is (rest bs (omega arith) valid.1)
@@ -315,23 +344,39 @@ ended n z e back (b ∷ bs) text valid are blank ends short = go (nat_eq b 44) r
   where
     go : (t : Bool) → nat_eq b 44 ≡ t → ElementOutcome n z
     go true is = inl (record { e = e; back = back; tail = b ∷ bs; text = text; valid = valid; blanks = are; break = inr (bs, ap (λ c. c ∷ bs) (eq_fact b 44 is)) })
-    go false is = inr (n - length (b ∷ bs), Trailing, record {
-      e = e; blanks = back; byte = b; rest = bs; text = text; is_element = valid; are_blanks = are;
-      no_blank = not_begun is_blank b bs blank; no_comma = not_eq_fact b 44 is; ends = ends_element e (back ++ b ∷ bs) b bs ends;
-      place = omega (arith, ap length text, element_longer e (back ++ b ∷ bs), length-append back (b ∷ bs));
-    })
+    go false is = inr (
+      n - length (b ∷ bs),
+      Trailing,
+      record {
+        e = e;
+        blanks = back;
+        byte = b;
+        rest = bs;
+        text = text;
+        is_element = valid;
+        are_blanks = are;
+        no_blank = not_begun is_blank b bs blank;
+        no_comma = not_eq_fact b 44 is;
+        ends = ends_element e (back ++ b ∷ bs) b bs ends;
+        place = omega (arith, ap length text, element_longer e (back ++ b ∷ bs), length-append back (b ∷ bs));
+      },
+    )
 
 with_authority : (n : ℕ) (z proto y : List ℕ) (t : QuotedFront y) (host : Option Host) (port : ℕ) → z ≡ encoded proto ++ 61 ∷ y → IsProtocol proto → SpellsAuthority (parts_bytes t.parts) host port → length z ≤ n → ElementOutcome n z
 with_authority n z proto y t host port text valid spelled short = go (parameters_outcome (suc (length t.rest)) n t.rest (omega arith) inside)
   where
     inside : length t.rest ≤ n
     inside = omega (arith, ap length text, length-append (encoded proto) (61 ∷ y), ap length t.text, length-append (parts_text t.parts) (34 ∷ t.rest))
+
     whole : z ≡ encoded proto ++ 61 ∷ quoted_then t.parts t.rest
     whole = text ∙ ap (λ xs. encoded proto ++ 61 ∷ xs) t.text
+
     of : List Parameter → Alternative
     of ps = record { proto = proto; parts = t.parts; host = host; port = port; parameters = ps }
+
     is : (ps : List Parameter) → AreParameters ps → IsAlternative (of ps)
     is ps are = record { proto = valid; parts = t.valid; authority = spelled; parameters = are }
+
     go : ParametersFront t.rest ⊎ ParametersRefused n t.rest → ElementOutcome n z
     go (inl r) = ended n z (Offered (of r.ps)) r.back r.tail (whole ∙ ap (λ xs. encoded proto ++ 61 ∷ quoted_then t.parts xs) r.text) (is r.ps r.valid) r.blanks r.no_blank (r.ends, r.no_semicolon) short
     go (inr r) = inr (r.q, BadParameter, record { a = of r.ps; before = r.before; after = r.after; z = r.z; text = whole ∙ ap (λ xs. encoded proto ++ 61 ∷ quoted_then t.parts xs) r.text; is_alternative = is r.ps r.valid; blanks_before = r.blanks_before; blanks_after = r.blanks_after; refused = r.refused })
@@ -341,13 +386,24 @@ with_protocol n z proto y text valid short = go (quoted_front n y inside)
   where
     inside : length y ≤ n
     inside = omega (arith, ap length text, length-append (encoded proto) (61 ∷ y))
+
     authority : (t : QuotedFront y) (r : Option (Option Host × ℕ)) → read_authority (parts_bytes t.parts) ≡ r → ElementOutcome n z
-    authority t None is = inr (n - length (quoted_then t.parts t.rest), BadAuthority, record {
-      proto = proto; parts = t.parts; rest = t.rest; text = text ∙ ap (λ xs. encoded proto ++ 61 ∷ xs) t.text; is_proto = valid; are_parts = t.valid;
-      bad = λ host port s. let e = authority_read (parts_bytes t.parts) host port s in cc;
-      place = omega (arith, ap length t.text, inside);
-    })
+    authority t None is = inr (
+      n - length (quoted_then t.parts t.rest),
+      BadAuthority,
+      record {
+        proto = proto;
+        parts = t.parts;
+        rest = t.rest;
+        text = text ∙ ap (λ xs. encoded proto ++ 61 ∷ xs) t.text;
+        is_proto = valid;
+        are_parts = t.valid;
+        bad = λ host port s. let e = authority_read (parts_bytes t.parts) host port s in cc;
+        place = omega (arith, ap length t.text, inside);
+      },
+    )
     authority t (Some a) is = with_authority n z proto y t a.0 a.1 text valid (authority_spelled (parts_bytes t.parts) a.0 a.1 is) short
+
     go : QuotedFront y ⊎ QuotedRefused n y → ElementOutcome n z
     go (inl t) = authority t (read_authority (parts_bytes t.parts)) refl
     go (inr t) = inr (t.q, BadQuoted, record { proto = proto; rest = y; p = t.p; reason = t.reason; text = text; is_proto = valid; from = t.from; refused = t.refused })
@@ -368,6 +424,7 @@ with_equals n z t y text valid short = go (protocol_outcome (suc (length t)) t (
     decoded : (d : Decoded t) (b : Bool) → nat_lt 255 (length d.proto) ≡ b → ElementOutcome n z
     decoded d true is = inr (n - length z, BadToken, inr (record { proto = d.proto; rest = y; text = text ∙ ap (λ xs. xs ++ 61 ∷ y) d.text; bytes = d.bytes; long = lt_fact 255 (length d.proto) is; place = omega arith }))
     decoded d false is = with_protocol n z d.proto y (text ∙ ap (λ xs. xs ++ 61 ∷ y) d.text) (record { some = some_bytes t d.proto valid d.text; short = ge_fact 255 (length d.proto) is; bytes = d.bytes }) short
+
     go : Decoded t ⊎ BadPercentIn t → ElementOutcome n z
     go (inl d) = decoded d (nat_lt 255 (length d.proto)) refl
     go (inr m) =
@@ -382,14 +439,25 @@ element_outcome n b bs blank comma short = go (token_front (b ∷ bs))
         let w = blanks_front t.rest in
         let text : b ∷ bs ≡ codes "clear" ++ (w.blanks ++ w.rest) = t.text ∙ ap (λ xs. xs ++ t.rest) (pointwise_is t.token (codes "clear") is) ∙ ap (λ xs. codes "clear" ++ xs) w.text in
         ended n (b ∷ bs) Clear w.blanks w.rest text tt w.valid w.longest ((λ h. t.longest (subst (BeginsIn is_token) (sym w.text) h)), ap (begins_with 61) (sym w.text) ∙ none) short
-    clear t none false is = inr (n - length t.rest, NoEquals, record {
-      token = t.token; rest = t.rest; text = t.text; valid = t.valid;
-      no_clear = λ e. both_ways (pointwise nat_eq t.token (codes "clear")) (ap (λ xs. pointwise nat_eq xs (codes "clear")) e) is;
-      longest = t.longest; no_equals = none; place = omega (arith, ap length t.text, length-append t.token t.rest);
-    })
+    clear t none false is = inr (
+      n - length t.rest,
+      NoEquals,
+      record {
+        token = t.token;
+        rest = t.rest;
+        text = t.text;
+        valid = t.valid;
+        no_clear = λ e. both_ways (pointwise nat_eq t.token (codes "clear")) (ap (λ xs. pointwise nat_eq xs (codes "clear")) e) is;
+        longest = t.longest;
+        no_equals = none;
+        place = omega (arith, ap length t.text, length-append t.token t.rest);
+      },
+    )
+
     equals : (t : TokenFront (b ∷ bs)) → (c : Bool) → begins_with 61 t.rest ≡ c → ElementOutcome n (b ∷ bs)
     equals t true is = let e = begins_is 61 t.rest is in with_equals n (b ∷ bs) t.token e.0 (t.text ∙ ap (λ xs. t.token ++ xs) e.1) t.valid short
     equals t false is = clear t is (pointwise nat_eq t.token (codes "clear")) refl
+
     go : TokenFront (b ∷ bs) ⊎ (BeginsIn is_token (b ∷ bs) → ⊥) → ElementOutcome n (b ∷ bs)
     go (inl t) = equals t (begins_with 61 t.rest) refl
     go (inr none) = inr (n - length (b ∷ bs), BadToken, inl (record { byte = b; rest = bs; text = refl; no_blank = blank; no_comma = comma; no_token = not_begun is_token b bs none; place = omega arith }))

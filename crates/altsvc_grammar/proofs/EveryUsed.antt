@@ -53,25 +53,45 @@ digits_answer x run bs host text is s = go (run_of is_ascii_digit bs) (after_run
         let is' : IsHostRun run (58 ∷ digits) = subst (λ xs. IsHostRun run (58 ∷ xs)) (r.text ∙ append_none digits) is in
         inl ((host, port), record { run = run; tail = 58 ∷ digits; text = whole; is_run = is'; of_host = s; of_port = inr (digits, refl, spelled) })
     ported digits (c ∷ cs) port r spelled =
-        inr (length x - length (c ∷ cs), Trailing, record {
-          run = run; port_text = 58 ∷ digits; rest = c ∷ cs; host = host; port = port;
-          text = text ∙ ap (λ xs. run ++ 58 ∷ xs) r.text;
-          is_run = subst (λ xs. IsHostRun run (58 ∷ xs)) r.text is;
-          of_host = s; of_port = inr (digits, refl, spelled); left = no_digit c cs r.longest;
-          place = omega (arith, ap length text, length-append run (58 ∷ bs), ap length r.text, length-append digits (c ∷ cs));
-        })
+        inr (
+          length x - length (c ∷ cs),
+          Trailing,
+          record {
+            run = run;
+            port_text = 58 ∷ digits;
+            rest = c ∷ cs;
+            host = host;
+            port = port;
+            text = text ∙ ap (λ xs. run ++ 58 ∷ xs) r.text;
+            is_run = subst (λ xs. IsHostRun run (58 ∷ xs)) r.text is;
+            of_host = s;
+            of_port = inr (digits, refl, spelled);
+            left = no_digit c cs r.longest;
+            place = omega (arith, ap length text, length-append run (58 ∷ bs), ap length r.text, length-append digits (c ∷ cs));
+          },
+        )
+
     go : (digits rest : List ℕ) → IsLongestRun is_ascii_digit bs digits rest → Some_used x
     go digits rest r = port (read_port digits) refl
       where
         port : (o : Option ℕ) → read_port digits ≡ o → Some_used x
-        port None none = inr (length x - length (digits ++ rest), BadPort, record {
-          run = run; digits = digits; rest = rest; host = host;
-          text = text ∙ ap (λ xs. run ++ 58 ∷ xs) r.text;
-          is_run = subst (λ xs. IsHostRun run (58 ∷ xs)) r.text is;
-          of_host = s; are_digits = r.valid; longest = r.longest;
-          none = λ p sp. let e = port_read digits p sp in cc;
-          place = omega (arith, ap length text, length-append run (58 ∷ bs), ap length r.text);
-        })
+        port None none = inr (
+          length x - length (digits ++ rest),
+          BadPort,
+          record {
+            run = run;
+            digits = digits;
+            rest = rest;
+            host = host;
+            text = text ∙ ap (λ xs. run ++ 58 ∷ xs) r.text;
+            is_run = subst (λ xs. IsHostRun run (58 ∷ xs)) r.text is;
+            of_host = s;
+            are_digits = r.valid;
+            longest = r.longest;
+            none = λ p sp. let e = port_read digits p sp in cc;
+            place = omega (arith, ap length text, length-append run (58 ∷ bs), ap length r.text);
+          },
+        )
         port (Some p) some = ported digits rest p r (port_spelled digits p some)
 
 host_answer : (x run tail : List ℕ) (host : Host) → x ≡ run ++ tail → IsHostRun run tail → SpellsHost run host → Some_used x
@@ -82,10 +102,23 @@ host_answer x run (b ∷ bs) host text is s = go (nat_eq b 58) refl
     go true e =
         let colon = ap (λ c. c ∷ bs) (eq_fact b 58 e) in
         digits_answer x run bs host (text ∙ ap (λ xs. run ++ xs) colon) (subst (IsHostRun run) colon is) s
-    go false e = inr (length x - length (b ∷ bs), Trailing, record {
-      run = run; port_text = []; rest = b ∷ bs; host = host; port = 443; text = text; is_run = is; of_host = s;
-      of_port = inl (refl, refl); left = not_eq_fact b 58 e; place = omega (arith, ap length text, length-append run (b ∷ bs));
-    })
+    go false e = inr (
+      length x - length (b ∷ bs),
+      Trailing,
+      record {
+        run = run;
+        port_text = [];
+        rest = b ∷ bs;
+        host = host;
+        port = 443;
+        text = text;
+        is_run = is;
+        of_host = s;
+        of_port = inl (refl, refl);
+        left = not_eq_fact b 58 e;
+        place = omega (arith, ap length text, length-append run (b ∷ bs));
+      },
+    )
 
 pub used_answer : (x : List ℕ) → Some_used x
 used_answer x = go (run_front x)
@@ -100,6 +133,7 @@ used_answer x = go (run_front x)
             let e : read_host run ≡ None = ap read_host (sym same) ∙ none in
             cc
     host f (Some found) some = host_answer x f.run f.tail found f.text f.is_run (read_host_sound f.run found some)
+
     go : (used_host_end x ≡ None) ⊎ RunFront x → Some_used x
     go (inl e) = inr (0, BadHost, record { none = λ run tail h text is s. let there = ap used_host_end text ∙ end_at run tail is in cc; place = refl })
     go (inr f) = host f (read_host f.run) refl

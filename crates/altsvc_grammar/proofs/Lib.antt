@@ -17,3 +17,4 @@ pub mod QuotedHosts
 pub mod WrittenValues
 pub mod UsedValues
 pub mod EveryUsed
+pub mod WrittenUsed

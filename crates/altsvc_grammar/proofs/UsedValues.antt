@@ -111,6 +111,7 @@ port_digits digits port s = ascii digits (digits_all digits s.numeral.1)
     both true true h = (refl, refl)
     both true false h = cc
     both false b h = cc
+
     ascii : (x : List ℕ) → list_all is_ascii_digit x ≡ true → AllIn is_ascii_digit x
     ascii [] h = tt
     ascii (b ∷ bs) h = let t = both (is_ascii_digit b) (list_all is_ascii_digit bs) h in (t.0, ascii bs t.1)
@@ -173,6 +174,7 @@ run_front (b ∷ bs) = go (nat_eq b 91) refl
     closed : nat_eq b 91 ≡ true → (bracket_end bs ≡ None) ⊎ BracketFront bs → (used_host_end (b ∷ bs) ≡ None) ⊎ RunFront (b ∷ bs)
     closed is (inl e) = inl (rw (is, e) refl)
     closed is (inr f) = inr (record { run = 91 ∷ (f.inner ++ 93 ∷ []); tail = f.tail; text = ap (λ c. c ∷ bs) (eq_fact b 91 is) ∙ ap (λ xs. 91 ∷ xs) f.text; is_run = inl (record { inner = f.inner; spelled = refl; first = f.first }) })
+
     go : (t : Bool) → nat_eq b 91 ≡ t → (used_host_end (b ∷ bs) ≡ None) ⊎ RunFront (b ∷ bs)
     go true is = closed is (bracket_front bs)
     go false is =
@@ -188,6 +190,7 @@ bad_host_read x q s = go (run_front x) ∙ ap (λ k. used_refused k BadHost) (sy
     host : (f : RunFront x) (r : Option Host) → read_host f.run ≡ r → read_used x ≡ used_refused 0 BadHost
     host f None is = no_host_at x f.run f.tail f.text f.is_run is
     host f (Some found) is = absurd (s.none f.run f.tail found f.text f.is_run (read_host_sound f.run found is))
+
     go : (used_host_end x ≡ None) ⊎ RunFront x → read_used x ≡ used_refused 0 BadHost
     go (inl e) = ap (used_by_end x) e
     go (inr f) = host f (read_host f.run) refl

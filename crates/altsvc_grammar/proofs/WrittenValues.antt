@@ -255,8 +255,13 @@ list_spelled (alt ∷ alts) valid short =
 -- the text that a value is written as spells it
 pub written_spelled : (v : AltSvc) → IsAltSvc v → length (value_text v) ≤ most_value_bytes → SpellsValue (value_text v) v
 written_spelled value.Clear valid short = record {
-  before = []; last = record { front = []; element = Some Clear; back = [] };
-  are_slots = tt; is_slot = record { front = tt; element = tt; back = tt };
-  text = refl; short = short; some = λ e. cc; means = refl;
+  before = [];
+  last = record { front = []; element = Some Clear; back = [] };
+  are_slots = tt;
+  is_slot = record { front = tt; element = tt; back = tt };
+  text = refl;
+  short = short;
+  some = λ e. cc;
+  means = refl;
 }
 written_spelled (value.List alts) valid short = list_spelled alts valid short

@@ -1,5 +1,6 @@
 ghost use Rattle.std.specs.Prelude.{◌≡◌, ◌≤◌, ◌↔◌, ℕ, true, List, length, Option, Some, Ok, Err};
 ghost use Rattle.alt_base.specs.declared.refusal.At.{At};
+ghost use Rattle.origin_values.specs.Valid.{IsHost};
 ghost use Rattle.origin_values.specs.declared.host.Host.{Host};
 ghost use Rattle.altsvc_grammar.specs.declared.alt_svc.AltSvc.{AltSvc};
 ghost use Rattle.altsvc_grammar.specs.declared.refusal.AltRefusal.{AltRefusal};
@@ -10,7 +11,7 @@ ghost use Rattle.altsvc_grammar.specs.UsedGrammar.{SpellsUsed, UsedRefusedAt, On
 ghost use Rattle.altsvc_grammar.specs.UsedReading.{read_used, used_refused};
 ghost use Rattle.altsvc_grammar.specs.declared.refusal.UsedRefusal.{UsedRefusal};
 ghost use Rattle.altsvc_grammar.specs.Valid.{IsAltSvc};
-ghost use Rattle.altsvc_grammar.specs.Written.{value_text};
+ghost use Rattle.altsvc_grammar.specs.Written.{value_text, used_text};
 ghost use Rattle.altsvc_grammar.specs.AuthorityReading.{read_authority};
 ghost use Rattle.altsvc_grammar.specs.AuthorityGrammar.{SpellsAuthority};
 ghost use Rattle.altsvc_grammar.specs.ValueReading.{read_value};
@@ -60,4 +61,10 @@ pub fn used_values_are_read()
 /// Each text is exactly one value of Alt-Used or refused at exactly one place for one reason, and never both.
 pub fn one_alt_used()
     ensures { (x : List ℕ) → OneUsed x }
+{}
+
+/// The text that a host and a port are written as for Alt-Used spells them, and is read back as them.
+pub fn written_used_values_are_read_back()
+    ensures spelled { (host : Host) (port : ℕ) → IsHost host → 1 ≤ port → port ≤ 65535 → SpellsUsed (used_text host port) (host, port) }
+    ensures back { (host : Host) (port : ℕ) → IsHost host → 1 ≤ port → port ≤ 65535 → read_used (used_text host port) ≡ Ok (host, port) }
 {}
