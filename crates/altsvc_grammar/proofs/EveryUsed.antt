@@ -1,10 +1,10 @@
 -- Each text is exactly one value of Alt-Used or one refusal.
-use Rattle.std.proofs.Common.{◌≡◌, ◌≢◌, ◌⊎◌, ℕ, ◌+◌, ◌-◌, ◌≤◌, ◌<◌, Bool, true, false, nat_eq, List, [], ◌∷◌, ◌++◌, length, take, Option, Some, None, Result, Ok, Err, IfOk, refl, ap, ap₂, sym, ◌∙◌, subst, arith, length-append, inl, inr}
+use Rattle.std.proofs.Common.{◌≡◌, ◌≢◌, ◌⊎◌, ℕ, ◌-◌, Bool, true, false, nat_eq, List, [], ◌∷◌, ◌++◌, length, take, Option, Some, None, Result, Ok, Err, IfOk, refl, ap, ap₂, sym, ◌∙◌, subst, arith, length-append, inl, inr}
 use Rattle.std.specs.Char.{is_ascii_digit}
 use Rattle.alt_base.specs.declared.refusal.At.{At}
 use Rattle.alt_base.specs.declared.refusal.Refused as Fails
 use Rattle.alt_base.specs.declared.refusal.Refused.TheVariants as fails
-use Rattle.field_text.specs.Runs.{AllIn, BeginsIn, IsLongestRun, run_of, after_run}
+use Rattle.field_text.specs.Runs.{BeginsIn, IsLongestRun, run_of, after_run}
 use Rattle.field_text.proofs.RunLemmas.{longest_run}
 use Rattle.origin_values.specs.Gives.{Gives, IfRefused}
 use Rattle.origin_values.specs.HostGrammar.{SpellsHost}
@@ -13,8 +13,8 @@ use Rattle.origin_values.specs.declared.host.Host.{Host}
 use Rattle.origin_values.proofs.Hosts.{read_host_complete, read_host_sound}
 use Rattle.altsvc_grammar.specs.AuthorityReading.{read_port}
 use Rattle.altsvc_grammar.specs.AuthorityGrammar.{SpellsPort}
-use Rattle.altsvc_grammar.specs.UsedReading.{used_refused, used_host_end, read_used}
-use Rattle.altsvc_grammar.specs.UsedGrammar.{IsHostRun, SpellsUsedPort, SpellsUsed, IsBadHost, IsBadPort, IsUsedTrailing, UsedRefusedAt, OneUsed}
+use Rattle.altsvc_grammar.specs.UsedReading.{used_host_end, read_used}
+use Rattle.altsvc_grammar.specs.UsedGrammar.{IsHostRun, SpellsUsed, UsedRefusedAt, OneUsed}
 use Rattle.altsvc_grammar.specs.declared.refusal.UsedRefusal.{UsedRefusal}
 use Rattle.altsvc_grammar.specs.declared.refusal.UsedRefusal.TheVariants.{BadHost, BadPort, Trailing}
 use Rattle.altsvc_grammar.proofs.Authorities.{port_read, port_spelled}

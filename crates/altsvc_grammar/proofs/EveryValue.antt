@@ -1,20 +1,19 @@
 -- Each text is exactly one value or one refusal.
-use Rattle.std.proofs.Common.{◌≡◌, ◌≢◌, ◌⊎◌, ℕ, zero, suc, ◌+◌, ◌-◌, ◌≤◌, ◌<◌, Bool, true, false, nat_eq, nat_lt, List, [], ◌∷◌, ◌++◌, length, Option, Some, None, Result, Ok, Err, IfOk, refl, ap, sym, ◌∙◌, subst, arith, length-append, inl, inr}
+use Rattle.std.proofs.Common.{◌≡◌, ◌≢◌, ◌⊎◌, ℕ, zero, suc, ◌≤◌, ◌<◌, Bool, true, false, nat_eq, nat_lt, List, [], ◌∷◌, ◌++◌, length, Some, None, Result, Ok, Err, IfOk, refl, ap, sym, ◌∙◌, subst, arith, length-append, inl, inr}
 use Rattle.alt_base.specs.declared.refusal.At.{At}
 use Rattle.alt_base.specs.declared.refusal.Refused as Fails
 use Rattle.alt_base.specs.declared.refusal.Refused.TheVariants as fails
 use Rattle.origin_values.specs.Gives.{Gives, IfRefused}
-use Rattle.field_text.specs.OneReading.{OneReading}
-use Rattle.field_text.specs.Runs.{AllIn, BeginsIn}
+use Rattle.field_text.specs.Runs.{BeginsIn}
 use Rattle.field_text.specs.BlanksGrammar.{is_blank}
 use Rattle.altsvc_grammar.specs.declared.alt_svc.AltSvc.{AltSvc}
 use Rattle.altsvc_grammar.specs.declared.refusal.AltRefusal.{AltRefusal}
 use Rattle.altsvc_grammar.specs.declared.refusal.AltRefusal.TheVariants.{Empty, BadToken, BadPercent, NoEquals, BadQuoted, BadAuthority, BadParameter, Trailing, TooLong}
-use Rattle.altsvc_grammar.specs.Steps.{refused}
 use Rattle.altsvc_grammar.specs.ValueReading.{read_value, most_bytes}
 use Rattle.altsvc_grammar.specs.ValueGrammar.{Element, element_then, Slot, slot_then, IsSlot, slots_before, AreSlots, elements_of, meaning, SpellsValue}
-use Rattle.altsvc_grammar.specs.ValueRefusals.{IsEmpty, Begins, ElementRefused, IsRefusedElement, ValueRefusedAt, OneAltSvc}
-use Rattle.altsvc_grammar.proofs.EveryElement.{BlanksFront, blanks_front, ElementFront, ElementOutcome, element_outcome, element_longer}
+use Rattle.altsvc_grammar.specs.ValueRefusals.{IsRefusedElement, ValueRefusedAt, OneAltSvc}
+use Rattle.altsvc_grammar.proofs.EveryParameter.{BlanksFront, blanks_front}
+use Rattle.altsvc_grammar.proofs.EveryElement.{ElementFront, ElementOutcome, element_outcome, element_longer}
 use Rattle.altsvc_grammar.proofs.SpelledValues.{slots_count}
 use Rattle.altsvc_grammar.proofs.Meanings.{value_spelled}
 use Rattle.altsvc_grammar.proofs.RefusedValues.{value_refused}

@@ -11,6 +11,7 @@ pub mod SpelledElements
 pub mod SpelledValues
 pub mod Meanings
 pub mod RefusedValues
+pub mod EveryParameter
 pub mod EveryElement
 pub mod EveryValue
 pub mod QuotedHosts

@@ -1,15 +1,9 @@
 -- The reading of a value of Alt-Used against its grammar.
-use Rattle.std.proofs.Common.{◌≡◌, ◌≢◌, ◌⊎◌, ℕ, suc, ◌+◌, ◌-◌, ◌≤◌, ◌<◌, Bool, true, false, cond, ◌&&◌, ◌||◌, not, nat_eq, List, [], ◌∷◌, ◌++◌, length, take, drop, Option, Some, None, option_map, Result, Ok, Err, IfOk, refl, ap, sym, ◌∙◌, subst, arith, length-append, append_assoc, inl, inr}
-use Rattle.std.proofs.Math.Seq.{take-append_seam, drop-append-add}
+use Rattle.std.proofs.Common.{◌≡◌, ◌≢◌, ◌⊎◌, ℕ, ◌+◌, Bool, true, false, cond, ◌&&◌, ◌||◌, not, nat_eq, List, [], ◌∷◌, ◌++◌, length, take, drop, Option, Some, None, option_map, Ok, refl, ap, sym, ◌∙◌, subst, arith, length-append, inl, inr}
+use Rattle.std.proofs.Math.Seq.{take-append_seam}
 use Rattle.std.specs.List.{list_any, list_all}
 use Rattle.std.specs.Char.{is_ascii_digit}
-use Rattle.alt_base.specs.declared.refusal.At.{At}
-use Rattle.alt_base.specs.declared.refusal.Refused as Fails
-use Rattle.alt_base.specs.declared.refusal.Refused.TheVariants as fails
-use Rattle.field_text.specs.OneReading.{OneReading}
-use Rattle.field_text.specs.Runs.{AllIn, BeginsIn, IsLongestRun, run_of, after_run}
-use Rattle.field_text.proofs.RunLemmas.{longest_run}
-use Rattle.origin_values.specs.Gives.{Gives, IfRefused}
+use Rattle.field_text.specs.Runs.{AllIn, BeginsIn}
 use Rattle.origin_values.specs.HostGrammar.{SpellsHost}
 use Rattle.origin_values.specs.HostReading.{read_host}
 use Rattle.origin_values.specs.OriginReading.{bracket_end, count_before, digits_before}
@@ -19,7 +13,7 @@ use Rattle.altsvc_grammar.specs.Steps.{begins_with}
 use Rattle.altsvc_grammar.specs.AuthorityReading.{read_port}
 use Rattle.altsvc_grammar.specs.AuthorityGrammar.{SpellsPort}
 use Rattle.altsvc_grammar.specs.UsedReading.{used_refused, used_host_end, used_at_end, used_port, used_digits, after_used_host, with_used_host, used_by_end, read_used}
-use Rattle.altsvc_grammar.specs.UsedGrammar.{IsBracketed, IsPlain, IsHostRun, SpellsUsedPort, SpellsUsed, IsBadHost, IsBadPort, IsLeft, IsUsedTrailing, UsedRefusedAt, OneUsed}
+use Rattle.altsvc_grammar.specs.UsedGrammar.{IsHostRun, SpellsUsedPort, SpellsUsed, IsBadHost, IsBadPort, IsLeft, IsUsedTrailing, UsedRefusedAt}
 use Rattle.altsvc_grammar.specs.declared.refusal.UsedRefusal.{UsedRefusal}
 use Rattle.altsvc_grammar.specs.declared.refusal.UsedRefusal.TheVariants.{BadHost, BadPort, Trailing}
 use Rattle.altsvc_grammar.proofs.Authorities.{port_read, port_spelled, digits_all}

@@ -1,10 +1,8 @@
 -- The text that a value of Alt-Used is written as spells it.
-use Rattle.std.proofs.Common.{◌≡◌, ◌⊎◌, ℕ, ◌+◌, ◌≤◌, ◌<◌, ◌==◌, Bool, true, false, cond, ◌||◌, nat_eq, List, [], ◌∷◌, ◌++◌, length, codes, refl, ap, sym, ◌∙◌, subst, arith, inl, inr}
+use Rattle.std.proofs.Common.{◌≡◌, ◌⊎◌, ℕ, ◌≤◌, ◌==◌, Bool, true, false, cond, ◌||◌, nat_eq, List, [], ◌∷◌, ◌++◌, codes, refl, arith, inl, inr}
 use Rattle.std.specs.List.{list_any}
-use Rattle.std.specs.Char.{digit_value}
 use Rattle.std.specs.Fmt.{decimal}
 use Rattle.origin_values.specs.Valid.{IsHost}
-use Rattle.origin_values.specs.HostGrammar.{SpellsHost}
 use Rattle.origin_values.specs.Written.{host_text, v6_text}
 use Rattle.origin_values.specs.declared.host.Host.{Host}
 use Rattle.origin_values.specs.declared.host.Host.TheVariants.{Name, V4, V6}
@@ -12,8 +10,7 @@ use Rattle.origin_values.proofs.AddressTexts.{v6_written}
 use Rattle.origin_values.proofs.HostTexts.{host_written}
 use Rattle.altsvc_grammar.specs.Steps.{begins_with}
 use Rattle.altsvc_grammar.specs.Written.{used_text}
-use Rattle.altsvc_grammar.specs.AuthorityGrammar.{SpellsPort}
-use Rattle.altsvc_grammar.specs.UsedGrammar.{IsBracketed, IsHostRun, SpellsUsedPort, SpellsUsed}
+use Rattle.altsvc_grammar.specs.UsedGrammar.{IsHostRun, SpellsUsed}
 use Rattle.altsvc_grammar.proofs.QuotedHosts.{name_without, dotted_without, hex_without}
 use Rattle.altsvc_grammar.proofs.WrittenValues.{port_spelled}
 

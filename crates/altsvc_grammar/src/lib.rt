@@ -1,4 +1,10 @@
 //! The values of the fields Alt-Svc and Alt-Used (RFC 7838), read and written.
+//!
+//! In `specs/` a file `..Grammar` says what is spelled by how a text splits, `ValueRefusals` and `UsedGrammar` have one
+//! record for each row of the tables of refusals, with its place, and a file `..Reading` is the function that the
+//! code's contracts cite. `Written` and `Shown` are the texts that are written. In `laws` public functions with empty
+//! bodies join them: what is read is so spelled and what is spelled is read, each text is one value or one refusal and
+//! never both, and what is written is read back.
 #![tactic(auto)]
 
 mod alt;
