@@ -1,5 +1,5 @@
 -- The steps of reading elements, in an input from a place on.
-use Rattle.std.proofs.Common.{◌≡◌, ℕ, suc, ◌+◌, ◌-◌, ◌≤◌, ◌<◌, Bool, true, false, nat_eq, List, [], ◌∷◌, length, take, drop, Result, Ok, Err, refl, ap, sym, ◌∙◌, arith, length-drop}
+use Rattle.std.proofs.Common.{◌≡◌, ℕ, suc, ◌+◌, ◌-◌, ◌<◌, true, false, List, [], ◌∷◌, length, take, drop, Result, Ok, Err, refl, ap, ◌∙◌, arith, length-drop}
 use Rattle.std.proofs.lemmas.List.{drop_all}
 use Rattle.alt_base.specs.declared.refusal.At.{At}
 use Rattle.alt_base.specs.declared.refusal.Refused.{Refused}
@@ -15,8 +15,8 @@ use Rattle.altsvc_grammar.specs.declared.element.Element.{Element}
 use Rattle.altsvc_grammar.specs.declared.seen.Seen as code
 use Rattle.altsvc_grammar.specs.Steps.{Step, GivesStep, begins_with, refused}
 use Rattle.altsvc_grammar.specs.ProtocolReading.{read_protocol}
-use Rattle.altsvc_grammar.specs.ValueReading.{Seen, read_element, element_by_token, after_element_token, lone_token, with_protocol, seen_element, element_seen, after_element, then_elements, read_elements, see}
-use Rattle.altsvc_grammar.specs.SeenElements.{GivesPlace, GivesSeen, seen_of}
+use Rattle.altsvc_grammar.specs.ValueReading.{Seen, read_element, element_by_token, after_element_token, lone_token, with_protocol, seen_element, element_seen, after_element, then_elements, read_elements}
+use Rattle.altsvc_grammar.specs.SeenElements.{GivesPlace, GivesSeen}
 use Rattle.altsvc_grammar.proofs.Slices.{front_byte}
 
 by_token : (most p q : ℕ) (x : List ℕ) → SpellsToken p (drop p x) q → read_element most p (drop p x) ≡ after_element_token most p (take (q - p) (drop p x)) q (drop q x)

@@ -1,16 +1,13 @@
 -- Each text that an element begins is an element and what follows it, or is refused.
-use Rattle.std.proofs.Common.{◌≡◌, ◌≢◌, ◌⊎◌, ℕ, zero, suc, ◌+◌, ◌-◌, ◌/◌, ◌%◌, ◌≤◌, ◌<◌, Bool, true, false, cond, ◌&&◌, not, nat_eq, nat_lt, nat_le, List, [], ◌∷◌, ◌++◌, length, codes, All, Option, Some, None, Result, Ok, Err, refl, ap, sym, ◌∙◌, subst, arith, length-append, append_assoc, inl, inr}
+use Rattle.std.proofs.Common.{◌≡◌, ◌≢◌, ◌⊎◌, ℕ, zero, suc, ◌-◌, ◌/◌, ◌%◌, ◌≤◌, ◌<◌, Bool, true, false, cond, ◌&&◌, nat_eq, nat_lt, nat_le, List, [], ◌∷◌, ◌++◌, length, codes, All, Option, Some, None, refl, ap, sym, ◌∙◌, subst, arith, length-append, append_assoc, inl, inr}
 use Rattle.std.proofs.lemmas.List.Elements.{All-cons, All-nil}
 use Rattle.std.specs.Cmp.Lexicographic.{pointwise}
 use Rattle.std.specs.Fmt.{digit_glyph}
 use Rattle.percent_encoding.specs.Percent.{percent_encode_byte}
-use Rattle.field_text.specs.declared.text_refusal.TextRefusal.{TextRefusal}
-use Rattle.field_text.specs.Runs.{AllIn, BeginsIn, IsLongestRun, run_of, after_run}
+use Rattle.field_text.specs.Runs.{AllIn, BeginsIn}
 use Rattle.field_text.specs.BlanksGrammar.{is_blank}
 use Rattle.field_text.specs.TokenGrammar.{is_token}
-use Rattle.field_text.specs.QuotedGrammar.{Part, parts_text, parts_bytes, AreParts, SpellsQuoted, QuotedRefusedAt}
-use Rattle.field_text.proofs.RunLemmas.{longest_run}
-use Rattle.field_text.proofs.QuotedLemmas.{one_quoted_of}
+use Rattle.field_text.specs.QuotedGrammar.{parts_text, parts_bytes}
 use Rattle.origin_values.specs.declared.host.Host.{Host}
 use Rattle.altsvc_grammar.specs.declared.refusal.AltRefusal.{AltRefusal}
 use Rattle.altsvc_grammar.specs.declared.refusal.AltRefusal.TheVariants.{BadToken, BadPercent, NoEquals, BadQuoted, BadAuthority, BadParameter, Trailing}
@@ -19,179 +16,14 @@ use Rattle.altsvc_grammar.specs.Steps.{begins_with}
 use Rattle.altsvc_grammar.specs.ProtocolReading.{is_coded}
 use Rattle.altsvc_grammar.specs.AuthorityReading.{read_authority}
 use Rattle.altsvc_grammar.specs.AuthorityGrammar.{IsProtocol, SpellsAuthority}
-use Rattle.altsvc_grammar.specs.ParameterGrammar.{IsToken, ParameterValue, Token, Quoted, value_then, IsParameterValue, EndsValue, Parameter, parameter_then, IsParameter, parameters_then, AreParameters, EndsParameters, IsNoName, IsNoValue, IsBadValue, ParameterRefused}
-use Rattle.altsvc_grammar.specs.ValueGrammar.{Alternative, alternative_then, IsAlternative, Element, Clear, Offered, element_then, IsElement}
-use Rattle.altsvc_grammar.specs.ValueRefusals.{IsNoToken, IsLongProtocol, IsNoEquals, IsBadPercent, IsBadQuoted, IsBadAuthority, IsBadParameter, IsTrailing, EndsElement, ElementRefused}
+use Rattle.altsvc_grammar.specs.ParameterGrammar.{IsToken, Parameter, AreParameters}
+use Rattle.altsvc_grammar.specs.ValueGrammar.{Alternative, IsAlternative, Element, Clear, Offered, element_then, IsElement}
+use Rattle.altsvc_grammar.specs.ValueRefusals.{EndsElement, ElementRefused}
 use Rattle.altsvc_grammar.proofs.Spelling.{quoted_then}
-use Rattle.altsvc_grammar.proofs.Percents.{Coded, coded, escape_coded, byte_length}
+use Rattle.altsvc_grammar.proofs.Percents.{coded, escape_coded, byte_length}
 use Rattle.altsvc_grammar.proofs.Authorities.{authority_read, authority_spelled}
-use Rattle.altsvc_grammar.proofs.SpelledParameters.{value_length}
 use Rattle.altsvc_grammar.proofs.SpelledElements.{Ends, pointwise_is, alternative_count}
-
-eq_fact : (a b : ℕ) → nat_eq a b ≡ true → a ≡ b
-eq_fact a b h = grind arith
-
-not_eq_fact : (a b : ℕ) → nat_eq a b ≡ false → a ≢ b
-not_eq_fact a b h = grind arith
-
-begins_is : (byte : ℕ) (x : List ℕ) → begins_with byte x ≡ true → (bs : List ℕ) × (x ≡ byte ∷ bs)
-begins_is byte [] h = cc
-begins_is byte (b ∷ bs) h = (bs, ap (λ c. c ∷ bs) (eq_fact b byte h))
-
--- a run of token bytes, which isn't empty, or none
-pub record TokenFront (z : List ℕ) : Type 0 where
-  pub token : List ℕ
-  pub rest : List ℕ
-  pub text : z ≡ token ++ rest
-  pub valid : IsToken token
-  pub longest : BeginsIn is_token rest → ⊥
-
-pub token_front : (z : List ℕ) → TokenFront z ⊎ (BeginsIn is_token z → ⊥)
-token_front z = go (run_of is_token z) (after_run is_token z) (longest_run is_token z)
-  where
-    go : (t rest : List ℕ) → IsLongestRun is_token z t rest → TokenFront z ⊎ (BeginsIn is_token z → ⊥)
-    go [] rest r = inr (λ h. r.longest (subst (BeginsIn is_token) r.text h))
-    go (b ∷ bs) rest r = inl (record { token = b ∷ bs; rest = rest; text = r.text; valid = record { some = λ e. cc; valid = r.valid }; longest = r.longest })
-
--- a quoted string, or its refusal
-pub record QuotedFront (z : List ℕ) : Type 0 where
-  pub parts : List Part
-  pub rest : List ℕ
-  pub valid : AreParts parts
-  pub text : z ≡ quoted_then parts rest
-
-pub record QuotedRefused (n : ℕ) (z : List ℕ) : Type 0 where
-  pub p : ℕ
-  pub q : ℕ
-  pub reason : TextRefusal
-  pub from : p + length z ≡ n
-  pub refused : QuotedRefusedAt p z q reason
-
-pub quoted_front : (n : ℕ) (z : List ℕ) → length z ≤ n → QuotedFront z ⊎ QuotedRefused n z
-quoted_front n z short = go (one_quoted_of (n - length z) z).some
-  where
-    go : ((q : ℕ) × SpellsQuoted (n - length z) z q) ⊎ ((q : ℕ) × (r : TextRefusal) × QuotedRefusedAt (n - length z) z q r) → QuotedFront z ⊎ QuotedRefused n z
-    go (inl s) = let t = s.1 in inl (record { parts = t.parts; rest = t.rest; valid = t.valid; text = t.text })
-    go (inr s) = inr (record { p = n - length z; q = s.0; reason = s.1; from = omega arith; refused = s.2 })
-
--- a parameter, or its refusal
-pub record ParameterFront (z : List ℕ) : Type 0 where
-  pub name : List ℕ
-  pub value : ParameterValue
-  pub rest : List ℕ
-  pub text : z ≡ name ++ 61 ∷ value_then value rest
-  pub is_name : IsToken name
-  pub valid : IsParameterValue value
-  pub ends : EndsValue value rest
-
-abbrev pub ParameterOutcome : ℕ → List ℕ → Type 0
-ParameterOutcome n z = ParameterFront z ⊎ ((q : ℕ) × ParameterRefused n z q)
-
-value_outcome : (n : ℕ) (z name w : List ℕ) → z ≡ name ++ 61 ∷ w → IsToken name → length z ≤ n → ParameterOutcome n z
-value_outcome n z name w text valid short = go (token_front w)
-  where
-    inside : length w ≤ n
-    inside = omega (arith, ap length text, length-append name (61 ∷ w))
-    quoted : (BeginsIn is_token w → ⊥) → QuotedFront w ⊎ QuotedRefused n w → ParameterOutcome n z
-    quoted none (inl t) = inl (record { name = name; value = Quoted t.parts; rest = t.rest; text = text ∙ ap (λ xs. name ++ 61 ∷ xs) t.text; is_name = valid; valid = t.valid; ends = tt })
-    quoted none (inr t) = inr (t.q, inr (inr (record { name = name; rest = w; p = t.p; reason = t.reason; text = text; is_name = valid; no_token = none; from = t.from; refused = t.refused })))
-    go : TokenFront w ⊎ (BeginsIn is_token w → ⊥) → ParameterOutcome n z
-    go (inl t) = inl (record { name = name; value = Token t.token; rest = t.rest; text = text ∙ ap (λ xs. name ++ 61 ∷ xs) t.text; is_name = valid; valid = t.valid; ends = t.longest })
-    go (inr none) = quoted none (quoted_front n w inside)
-
-pub parameter_outcome : (n : ℕ) (z : List ℕ) → length z ≤ n → (BeginsIn is_blank z → ⊥) → ParameterOutcome n z
-parameter_outcome n z short blank = go (token_front z)
-  where
-    named : (t : TokenFront z) → (b : Bool) → begins_with 61 t.rest ≡ b → ParameterOutcome n z
-    named t true is = let e = begins_is 61 t.rest is in value_outcome n z t.token e.0 (t.text ∙ ap (λ xs. t.token ++ xs) e.1) t.valid short
-    named t false is = inr (n - length t.rest, inr (inl (record { name = t.token; rest = t.rest; text = t.text; is_name = t.valid; no_token = t.longest; no_equals = is; place = omega (arith, ap length t.text, length-append t.token t.rest) })))
-    go : TokenFront z ⊎ (BeginsIn is_token z → ⊥) → ParameterOutcome n z
-    go (inl t) = named t (begins_with 61 t.rest) refl
-    go (inr none) = inr (n - length z, inl (record { no_token = none; no_blank = blank; place = omega arith }))
-
--- blanks in front
-pub record BlanksFront (w : List ℕ) : Type 0 where
-  pub blanks : List ℕ
-  pub rest : List ℕ
-  pub text : w ≡ blanks ++ rest
-  pub valid : AllIn is_blank blanks
-  pub longest : BeginsIn is_blank rest → ⊥
-
-pub blanks_front : (w : List ℕ) → BlanksFront w
-blanks_front w = let r = longest_run is_blank w in record { blanks = run_of is_blank w; rest = after_run is_blank w; text = r.text; valid = r.valid; longest = r.longest }
-
--- parameters and what follows them, or the refusal of one
-pub record ParametersFront (w : List ℕ) : Type 0 where
-  pub ps : List Parameter
-  pub back : List ℕ
-  pub tail : List ℕ
-  pub text : w ≡ parameters_then ps (back ++ tail)
-  pub valid : AreParameters ps
-  pub blanks : AllIn is_blank back
-  pub no_blank : BeginsIn is_blank tail → ⊥
-  pub no_semicolon : begins_with 59 tail ≡ false
-  pub ends : EndsParameters ps (back ++ tail)
-
-pub record ParametersRefused (n : ℕ) (w : List ℕ) : Type 0 where
-  pub ps : List Parameter
-  pub before : List ℕ
-  pub after : List ℕ
-  pub z : List ℕ
-  pub q : ℕ
-  pub text : w ≡ parameters_then ps (before ++ 59 ∷ (after ++ z))
-  pub valid : AreParameters ps
-  pub blanks_before : AllIn is_blank before
-  pub blanks_after : AllIn is_blank after
-  pub refused : ParameterRefused n z q
-
-ends_more : (p : Parameter) (ps : List Parameter) (v w : List ℕ) → v ≡ parameters_then ps w → EndsValue p.value v → EndsParameters ps w → EndsParameters (p ∷ ps) w
-ends_more p [] v w text last ends = subst (EndsValue p.value) text last
-ends_more p (q ∷ ps) v w text last ends = ends
-
-pub parameters_outcome : (k n : ℕ) (w : List ℕ) → length w < k → length w ≤ n → ParametersFront w ⊎ ParametersRefused n w
-parameters_outcome zero n w small short = absurd (omega arith)
-parameters_outcome (suc k) n w small short = go (blanks_front w) (λ v less within. parameters_outcome k n v less within)
-  where
-    Rest : Type 0
-    Rest = (v : List ℕ) → length v < k → length v ≤ n → ParametersFront v ⊎ ParametersRefused n v
-    further : (b : BlanksFront w) (y : List ℕ) → b.rest ≡ 59 ∷ y → (c : BlanksFront y) (f : ParameterFront c.rest) → ParametersFront f.rest ⊎ ParametersRefused n f.rest → ParametersFront w ⊎ ParametersRefused n w
-    further b y e c f (inl r) =
-        let p : Parameter = record { before = b.blanks; after = c.blanks; name = f.name; value = f.value } in
-        inl (record {
-          ps = p ∷ r.ps; back = r.back; tail = r.tail;
-          text = b.text ∙ ap (λ xs. b.blanks ++ xs) (e ∙ ap (λ xs. 59 ∷ xs) (c.text ∙ ap (λ xs. c.blanks ++ xs) (f.text ∙ ap (λ xs. f.name ++ 61 ∷ value_then f.value xs) r.text)));
-          valid = (record { before = b.valid; after = c.valid; name = f.is_name; value = f.valid }, r.valid);
-          blanks = r.blanks; no_blank = r.no_blank; no_semicolon = r.no_semicolon;
-          ends = ends_more p r.ps f.rest (r.back ++ r.tail) r.text f.ends r.ends;
-        })
-    further b y e c f (inr r) =
-        let p : Parameter = record { before = b.blanks; after = c.blanks; name = f.name; value = f.value } in
-        inr (record {
-          ps = p ∷ r.ps; before = r.before; after = r.after; z = r.z; q = r.q;
-          text = b.text ∙ ap (λ xs. b.blanks ++ xs) (e ∙ ap (λ xs. 59 ∷ xs) (c.text ∙ ap (λ xs. c.blanks ++ xs) (f.text ∙ ap (λ xs. f.name ++ 61 ∷ value_then f.value xs) r.text)));
-          valid = (record { before = b.valid; after = c.valid; name = f.is_name; value = f.valid }, r.valid);
-          blanks_before = r.blanks_before; blanks_after = r.blanks_after; refused = r.refused;
-        })
-    one : (b : BlanksFront w) (y : List ℕ) → b.rest ≡ 59 ∷ y → (c : BlanksFront y) → ParameterOutcome n c.rest → Rest → ParametersFront w ⊎ ParametersRefused n w
-    one b y e c (inl f) rest =
-        let smaller : length f.rest < length w = omega (arith, ap length b.text, length-append b.blanks b.rest, ap length e, ap length c.text, length-append c.blanks c.rest, ap length f.text, length-append f.name (61 ∷ value_then f.value f.rest), value_length f.value f.rest) in
-        let less : length f.rest < k = omega arith in
-        let within : length f.rest ≤ n = omega arith in
-        further b y e c f (rest f.rest less within)
-    one b y e c (inr f) rest = inr (record {
-      ps = []; before = b.blanks; after = c.blanks; z = c.rest; q = f.0;
-      text = b.text ∙ ap (λ xs. b.blanks ++ xs) (e ∙ ap (λ xs. 59 ∷ xs) c.text);
-      valid = tt; blanks_before = b.valid; blanks_after = c.valid; refused = f.1;
-    })
-    semicolon : (b : BlanksFront w) → (t : Bool) → begins_with 59 b.rest ≡ t → Rest → ParametersFront w ⊎ ParametersRefused n w
-    semicolon b false is rest = inl (record { ps = []; back = b.blanks; tail = b.rest; text = b.text; valid = tt; blanks = b.valid; no_blank = b.longest; no_semicolon = is; ends = tt })
-    semicolon b true is rest =
-        let e = begins_is 59 b.rest is in
-        let c = blanks_front e.0 in
-        let inside : length c.rest ≤ n = omega (arith, ap length b.text, length-append b.blanks b.rest, ap length e.1, ap length c.text, length-append c.blanks c.rest) in
-        one b e.0 e.1 c (parameter_outcome n c.rest inside c.longest) rest
-    go : BlanksFront w → Rest → ParametersFront w ⊎ ParametersRefused n w
-    go b rest = semicolon b (begins_with 59 b.rest) refl rest
+use Rattle.altsvc_grammar.proofs.EveryParameter.{eq_fact, not_eq_fact, begins_is, TokenFront, token_front, QuotedFront, QuotedRefused, quoted_front, blanks_front, ParametersFront, ParametersRefused, parameters_outcome}
 
 -- a protocol, or its first bad `%`
 pub record Decoded (t : List ℕ) : Type 0 where
@@ -234,11 +66,14 @@ token_small b h = go (nat_lt b 256) refl
   where
     lt_fact : (a c : ℕ) → nat_lt a c ≡ true → a < c
     lt_fact a c i = grind arith
+
     ge_fact : (a c : ℕ) → nat_lt a c ≡ false → c ≤ a
     ge_fact a c i = grind arith
+
     large : 256 ≤ b → is_token b ≡ false
     large i = rw (not_below b 33 (omega arith) i, not_below b 39 (omega arith) i, not_below b 43 (omega arith) i, not_below b 46 (omega arith) i, not_below b 57 (omega arith) i, not_below b 90 (omega arith) i, not_below b 122 (omega arith) i, not_below b 124 (omega arith) i, not_below b 126 (omega arith) i)
         (rw (and_none (nat_le 33 b), and_none (nat_le 35 b), and_none (nat_le 42 b), and_none (nat_le 45 b), and_none (nat_le 48 b), and_none (nat_le 65 b), and_none (nat_le 94 b), and_none (nat_le 124 b), and_none (nat_le 126 b)) refl)
+
     go : (t : Bool) → nat_lt b 256 ≡ t → b < 256
     go true is = lt_fact b 256 is
     go false is = absurd (both_ways (is_token b) h (large (ge_fact b 256 is)))
@@ -269,6 +104,7 @@ protocol_outcome (suc k) (b ∷ bs) small valid = go (nat_eq b 37) refl (λ t le
   where
     Rest : Type 0
     Rest = (t : List ℕ) → length t < k → AllIn is_token t → Decoded t ⊎ BadPercentIn t
+
     percent : b ≡ 37 → (t : Bool) → is_coded bs ≡ t → Rest → Decoded (b ∷ bs) ⊎ BadPercentIn (b ∷ bs)
     percent e false is rest = inr (record { good = []; more = bs; bytes = All-nil (λ c. c < 256); text = ap (λ c. c ∷ bs) e; in_token = valid.1; bad = λ byte after below f. both_ways (is_coded bs) (coded_from byte after bs below f) is })
     percent e true is rest =
@@ -277,6 +113,7 @@ protocol_outcome (suc k) (b ∷ bs) small valid = go (nat_eq b 37) refl (λ t le
         let less : length c.after < k = omega (arith, ap length c.text, length-append (encoded_byte c.byte) c.after, byte_length c.byte) in
         let are : AllIn is_token c.after = all_tail is_token (encoded_byte c.byte) c.after (subst (AllIn is_token) text valid) in
         coded_more (b ∷ bs) c.byte c.after c.small text (rest c.after less are)
+
     go : (t : Bool) → nat_eq b 37 ≡ t → Rest → Decoded (b ∷ bs) ⊎ BadPercentIn (b ∷ bs)
     go true is rest = percent (eq_fact b 37 is) (is_coded bs) refl rest
     go false is rest = plain_more b bs valid.0 is (rest bs (omega arith) valid.1)
@@ -315,23 +152,39 @@ ended n z e back (b ∷ bs) text valid are blank ends short = go (nat_eq b 44) r
   where
     go : (t : Bool) → nat_eq b 44 ≡ t → ElementOutcome n z
     go true is = inl (record { e = e; back = back; tail = b ∷ bs; text = text; valid = valid; blanks = are; break = inr (bs, ap (λ c. c ∷ bs) (eq_fact b 44 is)) })
-    go false is = inr (n - length (b ∷ bs), Trailing, record {
-      e = e; blanks = back; byte = b; rest = bs; text = text; is_element = valid; are_blanks = are;
-      no_blank = not_begun is_blank b bs blank; no_comma = not_eq_fact b 44 is; ends = ends_element e (back ++ b ∷ bs) b bs ends;
-      place = omega (arith, ap length text, element_longer e (back ++ b ∷ bs), length-append back (b ∷ bs));
-    })
+    go false is = inr (
+      n - length (b ∷ bs),
+      Trailing,
+      record {
+        e = e;
+        blanks = back;
+        byte = b;
+        rest = bs;
+        text = text;
+        is_element = valid;
+        are_blanks = are;
+        no_blank = not_begun is_blank b bs blank;
+        no_comma = not_eq_fact b 44 is;
+        ends = ends_element e (back ++ b ∷ bs) b bs ends;
+        place = omega (arith, ap length text, element_longer e (back ++ b ∷ bs), length-append back (b ∷ bs));
+      },
+    )
 
 with_authority : (n : ℕ) (z proto y : List ℕ) (t : QuotedFront y) (host : Option Host) (port : ℕ) → z ≡ encoded proto ++ 61 ∷ y → IsProtocol proto → SpellsAuthority (parts_bytes t.parts) host port → length z ≤ n → ElementOutcome n z
 with_authority n z proto y t host port text valid spelled short = go (parameters_outcome (suc (length t.rest)) n t.rest (omega arith) inside)
   where
     inside : length t.rest ≤ n
     inside = omega (arith, ap length text, length-append (encoded proto) (61 ∷ y), ap length t.text, length-append (parts_text t.parts) (34 ∷ t.rest))
+
     whole : z ≡ encoded proto ++ 61 ∷ quoted_then t.parts t.rest
     whole = text ∙ ap (λ xs. encoded proto ++ 61 ∷ xs) t.text
+
     of : List Parameter → Alternative
     of ps = record { proto = proto; parts = t.parts; host = host; port = port; parameters = ps }
+
     is : (ps : List Parameter) → AreParameters ps → IsAlternative (of ps)
     is ps are = record { proto = valid; parts = t.valid; authority = spelled; parameters = are }
+
     go : ParametersFront t.rest ⊎ ParametersRefused n t.rest → ElementOutcome n z
     go (inl r) = ended n z (Offered (of r.ps)) r.back r.tail (whole ∙ ap (λ xs. encoded proto ++ 61 ∷ quoted_then t.parts xs) r.text) (is r.ps r.valid) r.blanks r.no_blank (r.ends, r.no_semicolon) short
     go (inr r) = inr (r.q, BadParameter, record { a = of r.ps; before = r.before; after = r.after; z = r.z; text = whole ∙ ap (λ xs. encoded proto ++ 61 ∷ quoted_then t.parts xs) r.text; is_alternative = is r.ps r.valid; blanks_before = r.blanks_before; blanks_after = r.blanks_after; refused = r.refused })
@@ -341,13 +194,24 @@ with_protocol n z proto y text valid short = go (quoted_front n y inside)
   where
     inside : length y ≤ n
     inside = omega (arith, ap length text, length-append (encoded proto) (61 ∷ y))
+
     authority : (t : QuotedFront y) (r : Option (Option Host × ℕ)) → read_authority (parts_bytes t.parts) ≡ r → ElementOutcome n z
-    authority t None is = inr (n - length (quoted_then t.parts t.rest), BadAuthority, record {
-      proto = proto; parts = t.parts; rest = t.rest; text = text ∙ ap (λ xs. encoded proto ++ 61 ∷ xs) t.text; is_proto = valid; are_parts = t.valid;
-      bad = λ host port s. let e = authority_read (parts_bytes t.parts) host port s in cc;
-      place = omega (arith, ap length t.text, inside);
-    })
+    authority t None is = inr (
+      n - length (quoted_then t.parts t.rest),
+      BadAuthority,
+      record {
+        proto = proto;
+        parts = t.parts;
+        rest = t.rest;
+        text = text ∙ ap (λ xs. encoded proto ++ 61 ∷ xs) t.text;
+        is_proto = valid;
+        are_parts = t.valid;
+        bad = λ host port s. let e = authority_read (parts_bytes t.parts) host port s in cc;
+        place = omega (arith, ap length t.text, inside);
+      },
+    )
     authority t (Some a) is = with_authority n z proto y t a.0 a.1 text valid (authority_spelled (parts_bytes t.parts) a.0 a.1 is) short
+
     go : QuotedFront y ⊎ QuotedRefused n y → ElementOutcome n z
     go (inl t) = authority t (read_authority (parts_bytes t.parts)) refl
     go (inr t) = inr (t.q, BadQuoted, record { proto = proto; rest = y; p = t.p; reason = t.reason; text = text; is_proto = valid; from = t.from; refused = t.refused })
@@ -368,6 +232,7 @@ with_equals n z t y text valid short = go (protocol_outcome (suc (length t)) t (
     decoded : (d : Decoded t) (b : Bool) → nat_lt 255 (length d.proto) ≡ b → ElementOutcome n z
     decoded d true is = inr (n - length z, BadToken, inr (record { proto = d.proto; rest = y; text = text ∙ ap (λ xs. xs ++ 61 ∷ y) d.text; bytes = d.bytes; long = lt_fact 255 (length d.proto) is; place = omega arith }))
     decoded d false is = with_protocol n z d.proto y (text ∙ ap (λ xs. xs ++ 61 ∷ y) d.text) (record { some = some_bytes t d.proto valid d.text; short = ge_fact 255 (length d.proto) is; bytes = d.bytes }) short
+
     go : Decoded t ⊎ BadPercentIn t → ElementOutcome n z
     go (inl d) = decoded d (nat_lt 255 (length d.proto)) refl
     go (inr m) =
@@ -382,14 +247,25 @@ element_outcome n b bs blank comma short = go (token_front (b ∷ bs))
         let w = blanks_front t.rest in
         let text : b ∷ bs ≡ codes "clear" ++ (w.blanks ++ w.rest) = t.text ∙ ap (λ xs. xs ++ t.rest) (pointwise_is t.token (codes "clear") is) ∙ ap (λ xs. codes "clear" ++ xs) w.text in
         ended n (b ∷ bs) Clear w.blanks w.rest text tt w.valid w.longest ((λ h. t.longest (subst (BeginsIn is_token) (sym w.text) h)), ap (begins_with 61) (sym w.text) ∙ none) short
-    clear t none false is = inr (n - length t.rest, NoEquals, record {
-      token = t.token; rest = t.rest; text = t.text; valid = t.valid;
-      no_clear = λ e. both_ways (pointwise nat_eq t.token (codes "clear")) (ap (λ xs. pointwise nat_eq xs (codes "clear")) e) is;
-      longest = t.longest; no_equals = none; place = omega (arith, ap length t.text, length-append t.token t.rest);
-    })
+    clear t none false is = inr (
+      n - length t.rest,
+      NoEquals,
+      record {
+        token = t.token;
+        rest = t.rest;
+        text = t.text;
+        valid = t.valid;
+        no_clear = λ e. both_ways (pointwise nat_eq t.token (codes "clear")) (ap (λ xs. pointwise nat_eq xs (codes "clear")) e) is;
+        longest = t.longest;
+        no_equals = none;
+        place = omega (arith, ap length t.text, length-append t.token t.rest);
+      },
+    )
+
     equals : (t : TokenFront (b ∷ bs)) → (c : Bool) → begins_with 61 t.rest ≡ c → ElementOutcome n (b ∷ bs)
     equals t true is = let e = begins_is 61 t.rest is in with_equals n (b ∷ bs) t.token e.0 (t.text ∙ ap (λ xs. t.token ++ xs) e.1) t.valid short
     equals t false is = clear t is (pointwise nat_eq t.token (codes "clear")) refl
+
     go : TokenFront (b ∷ bs) ⊎ (BeginsIn is_token (b ∷ bs) → ⊥) → ElementOutcome n (b ∷ bs)
     go (inl t) = equals t (begins_with 61 t.rest) refl
     go (inr none) = inr (n - length (b ∷ bs), BadToken, inl (record { byte = b; rest = bs; text = refl; no_blank = blank; no_comma = comma; no_token = not_begun is_token b bs none; place = omega arith }))

@@ -1,20 +1,19 @@
 -- Each text is exactly one value or one refusal.
-use Rattle.std.proofs.Common.{◌≡◌, ◌≢◌, ◌⊎◌, ℕ, zero, suc, ◌+◌, ◌-◌, ◌≤◌, ◌<◌, Bool, true, false, nat_eq, nat_lt, List, [], ◌∷◌, ◌++◌, length, Option, Some, None, Result, Ok, Err, IfOk, refl, ap, sym, ◌∙◌, subst, arith, length-append, inl, inr}
+use Rattle.std.proofs.Common.{◌≡◌, ◌≢◌, ◌⊎◌, ℕ, zero, suc, ◌≤◌, ◌<◌, Bool, true, false, nat_eq, nat_lt, List, [], ◌∷◌, ◌++◌, length, Some, None, Result, Ok, Err, IfOk, refl, ap, sym, ◌∙◌, subst, arith, length-append, inl, inr}
 use Rattle.alt_base.specs.declared.refusal.At.{At}
 use Rattle.alt_base.specs.declared.refusal.Refused as Fails
 use Rattle.alt_base.specs.declared.refusal.Refused.TheVariants as fails
 use Rattle.origin_values.specs.Gives.{Gives, IfRefused}
-use Rattle.field_text.specs.OneReading.{OneReading}
-use Rattle.field_text.specs.Runs.{AllIn, BeginsIn}
+use Rattle.field_text.specs.Runs.{BeginsIn}
 use Rattle.field_text.specs.BlanksGrammar.{is_blank}
 use Rattle.altsvc_grammar.specs.declared.alt_svc.AltSvc.{AltSvc}
 use Rattle.altsvc_grammar.specs.declared.refusal.AltRefusal.{AltRefusal}
 use Rattle.altsvc_grammar.specs.declared.refusal.AltRefusal.TheVariants.{Empty, BadToken, BadPercent, NoEquals, BadQuoted, BadAuthority, BadParameter, Trailing, TooLong}
-use Rattle.altsvc_grammar.specs.Steps.{refused}
 use Rattle.altsvc_grammar.specs.ValueReading.{read_value, most_bytes}
 use Rattle.altsvc_grammar.specs.ValueGrammar.{Element, element_then, Slot, slot_then, IsSlot, slots_before, AreSlots, elements_of, meaning, SpellsValue}
-use Rattle.altsvc_grammar.specs.ValueRefusals.{IsEmpty, Begins, ElementRefused, IsRefusedElement, ValueRefusedAt, OneAltSvc}
-use Rattle.altsvc_grammar.proofs.EveryElement.{BlanksFront, blanks_front, ElementFront, ElementOutcome, element_outcome, element_longer}
+use Rattle.altsvc_grammar.specs.ValueRefusals.{IsRefusedElement, ValueRefusedAt, OneAltSvc}
+use Rattle.altsvc_grammar.proofs.EveryParameter.{BlanksFront, blanks_front}
+use Rattle.altsvc_grammar.proofs.EveryElement.{ElementFront, ElementOutcome, element_outcome, element_longer}
 use Rattle.altsvc_grammar.proofs.SpelledValues.{slots_count}
 use Rattle.altsvc_grammar.proofs.Meanings.{value_spelled}
 use Rattle.altsvc_grammar.proofs.RefusedValues.{value_refused}
@@ -62,29 +61,39 @@ walk (suc k) x ss y small are text = go (blanks_front y) (λ tt' z less are' e. 
   where
     Rest : Type 0
     Rest = (tt' : List Slot) (z : List ℕ) → length z < k → AreSlots tt' → x ≡ slots_before tt' z → Whole x ⊎ Refused x
+
     short : length y ≤ length x
     short = omega (arith, ap length text, suffix ss y)
+
     none : (b : BlanksFront y) → Slot
     none b = record { front = b.blanks; element = None; back = [] }
+
     is_none : (b : BlanksFront y) → IsSlot (none b)
     is_none b = record { front = b.valid; element = tt; back = tt }
+
     some : (b : BlanksFront y) → ElementFront b.rest → Slot
     some b f = record { front = b.blanks; element = Some f.e; back = f.back }
+
     is_some : (b : BlanksFront y) (f : ElementFront b.rest) → IsSlot (some b f)
     is_some b f = record { front = b.valid; element = f.valid; back = f.blanks }
+
     -- a comma behind a slot
     comma : (s : Slot) (w : List ℕ) → IsSlot s → y ≡ slot_then s (44 ∷ w) → length w < k → Rest → Whole x ⊎ Refused x
     comma s w is e less rest = rest (ss ++ s ∷ []) w less (are_append ss s are is) (text ∙ ap (slots_before ss) e ∙ sym (before_append ss s w))
+
     finish : (s : Slot) → IsSlot s → y ≡ slot_then s [] → Whole x ⊎ Refused x
     finish s is e = inl (record { before = ss; last = s; are_slots = are; is_slot = is; text = text ∙ ap (slots_before ss) e })
+
     broken : (b : BlanksFront y) (f : ElementFront b.rest) → (f.tail ≡ []) ⊎ ((bs : List ℕ) × (f.tail ≡ 44 ∷ bs)) → Rest → Whole x ⊎ Refused x
     broken b f (inl e) rest = finish (some b f) (is_some b f) (b.text ∙ ap (λ xs. b.blanks ++ xs) (f.text ∙ ap (λ xs. element_then f.e (f.back ++ xs)) e))
     broken b f (inr e) rest =
         let less : length e.0 < k = omega (arith, ap length b.text, length-append b.blanks b.rest, ap length f.text, element_longer f.e (f.back ++ f.tail), length-append f.back f.tail, ap length e.1) in
         comma (some b f) e.0 (is_some b f) (b.text ∙ ap (λ xs. b.blanks ++ xs) (f.text ∙ ap (λ xs. element_then f.e (f.back ++ xs)) e.1)) less rest
+
     outcome : (b : BlanksFront y) → ElementOutcome (length x) b.rest → Rest → Whole x ⊎ Refused x
     outcome b (inl f) rest = broken b f f.break rest
     outcome b (inr r) rest = inr (record { q = r.0; r = r.1; refused = record { y = b.rest; begins = record { before = ss; blanks = b.blanks; are_slots = are; are_blanks = b.valid; text = text ∙ ap (slots_before ss) b.text }; refused = r.2 } })
+
     byte : (b : BlanksFront y) (c : ℕ) (cs : List ℕ) → b.rest ≡ c ∷ cs → (t : Bool) → nat_eq c 44 ≡ t → Rest → Whole x ⊎ Refused x
     byte b c cs e true is rest =
         let less : length cs < k = omega (arith, ap length b.text, length-append b.blanks b.rest, ap length e) in
@@ -93,9 +102,11 @@ walk (suc k) x ss y small are text = go (blanks_front y) (λ tt' z less are' e. 
         let inside : length (c ∷ cs) ≤ length x = omega (arith, short, ap length b.text, length-append b.blanks b.rest, ap length e) in
         let blank : is_blank c ≡ false = no_begin is_blank c cs (λ h. b.longest (subst (BeginsIn is_blank) (sym e) h)) in
         outcome b (subst (ElementOutcome (length x)) (sym e) (element_outcome (length x) c cs blank (not_eq_fact c 44 is) inside)) rest
+
     split : (b : BlanksFront y) (z : List ℕ) → b.rest ≡ z → Rest → Whole x ⊎ Refused x
     split b [] e rest = finish (none b) (is_none b) (b.text ∙ ap (λ xs. b.blanks ++ xs) e)
     split b (c ∷ cs) e rest = byte b c cs e (nat_eq c 44) refl rest
+
     go : BlanksFront y → Rest → Whole x ⊎ Refused x
     go b rest = split b b.rest refl rest
 
@@ -116,11 +127,19 @@ Some_answer x = ((v : AltSvc) × SpellsValue x v) ⊎ ((q : ℕ) × (r : AltRefu
 
 whole_answer : (x : List ℕ) (w : Whole x) → length x ≤ most_bytes → (es : List Element) → elements_of (w.before ++ w.last ∷ []) ≡ es → Some_answer x
 whole_answer x w short [] e = inr (length x, Empty, (record { before = w.before; last = w.last; are_slots = w.are_slots; is_slot = w.is_slot; text = w.text; none = e; place = refl }, short))
-whole_answer x w short (f ∷ es) e = inl (meaning (elements_of (w.before ++ w.last ∷ [])), record {
-  before = w.before; last = w.last; are_slots = w.are_slots; is_slot = w.is_slot; text = w.text; short = short;
-  some = λ h. let clash : f ∷ es ≡ [] = sym e ∙ h in cc;
-  means = refl;
-})
+whole_answer x w short (f ∷ es) e = inl (
+  meaning (elements_of (w.before ++ w.last ∷ [])),
+  record {
+    before = w.before;
+    last = w.last;
+    are_slots = w.are_slots;
+    is_slot = w.is_slot;
+    text = w.text;
+    short = short;
+    some = λ h. let clash : f ∷ es ≡ [] = sym e ∙ h in cc;
+    means = refl;
+  },
+)
 
 lt_fact : (a b : ℕ) → nat_lt a b ≡ true → a < b
 lt_fact a b h = grind arith
@@ -134,6 +153,7 @@ answer x = go (nat_lt most_bytes (length x)) refl
     short_one : length x ≤ most_bytes → Whole x ⊎ Refused x → Some_answer x
     short_one short (inl w) = whole_answer x w short (elements_of (w.before ++ w.last ∷ [])) refl
     short_one short (inr t) = inr (t.q, t.r, refused_in_table x t.q t.r t.refused short)
+
     go : (t : Bool) → nat_lt most_bytes (length x) ≡ t → Some_answer x
     go true is = inr (most_bytes, TooLong, (refl, lt_fact most_bytes (length x) is))
     go false is = short_one (ge_fact most_bytes (length x) is) (walk (suc (length x)) x [] x (omega arith) tt refl)

@@ -1,13 +1,9 @@
 -- Keeping an alternative in a map from keys.
-use Rattle.std.proofs.Common.{◌≡◌, ℕ, Bool, true, false, cond, ◌&&◌, ◌||◌, nat_eq, List, [], ◌∷◌, ◌++◌, refl, ap, ap₂, sym, ◌∙◌, Option, Some, None}
+use Rattle.std.proofs.Common.{◌≡◌, Bool, true, false, List, [], ◌∷◌, ◌++◌, refl, ap, sym, ◌∙◌}
 use Rattle.std.specs.List.{list_any}
-use Rattle.std.specs.Option.{is_some, option_eq}
-use Rattle.std.specs.Map.{lookup, lookup_entry}
-use Rattle.std.specs.Cmp.Lexicographic.{pointwise}
+use Rattle.std.specs.Option.{is_some}
+use Rattle.std.specs.Map.{lookup}
 use Rattle.indexmap.specs.IndexMap.{insert_entry}
-use Rattle.origin_values.specs.Equality.{host_eq}
-use Rattle.origin_values.specs.declared.host.Host.{Host}
-use Rattle.origin_values.specs.declared.host.Host.TheVariants.{Name, V4, V6}
 use Rattle.altsvc_grammar.specs.declared.alt_key.AltKey.{AltKey}
 use Rattle.altsvc_grammar.specs.declared.terms.Terms.{Terms}
 use Rattle.altsvc_grammar.specs.Keys.{key_eq}

@@ -11,8 +11,11 @@ pub mod SpelledElements
 pub mod SpelledValues
 pub mod Meanings
 pub mod RefusedValues
+pub mod EveryParameter
 pub mod EveryElement
 pub mod EveryValue
 pub mod QuotedHosts
 pub mod WrittenValues
 pub mod UsedValues
+pub mod EveryUsed
+pub mod WrittenUsed

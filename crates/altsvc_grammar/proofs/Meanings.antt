@@ -1,12 +1,7 @@
 -- What was seen of the elements is what they mean, and the reading of a whole value.
-use Rattle.std.proofs.Common.{◌≡◌, ◌≢◌, ◌⊎◌, ℕ, suc, ◌+◌, ◌-◌, ◌≤◌, ◌<◌, Bool, true, false, cond, ◌&&◌, ◌||◌, nat_eq, nat_lt, List, [], ◌∷◌, ◌++◌, length, map, codes, Option, Some, None, Result, Ok, Err, refl, ap, ap₂, sym, ◌∙◌, subst, arith, length-append, append_assoc, inl, inr}
+use Rattle.std.proofs.Common.{◌≡◌, ◌≢◌, ℕ, ◌+◌, ◌≤◌, ◌<◌, Bool, true, false, cond, ◌||◌, nat_lt, List, [], ◌∷◌, ◌++◌, length, map, Ok, refl, ap, ap₂, sym, ◌∙◌, subst, arith, append_assoc}
 use Rattle.std.specs.List.{list_any}
-use Rattle.alt_base.specs.declared.refusal.At.{At}
-use Rattle.field_text.specs.Runs.{AllIn, BeginsIn}
-use Rattle.field_text.specs.BlanksGrammar.{is_blank}
-use Rattle.field_text.specs.TokenGrammar.{is_token}
-use Rattle.altsvc_grammar.specs.declared.refusal.AltRefusal.{AltRefusal}
-use Rattle.altsvc_grammar.specs.declared.refusal.AltRefusal.TheVariants.{Empty, BadToken, BadPercent, NoEquals, BadQuoted, BadAuthority, BadParameter, Trailing, TooLong}
+use Rattle.altsvc_grammar.specs.declared.refusal.AltRefusal.TheVariants.{Empty, TooLong}
 use Rattle.altsvc_grammar.specs.declared.alt_key.AltKey.{AltKey}
 use Rattle.altsvc_grammar.specs.declared.alt.Alt.{Alt}
 use Rattle.altsvc_grammar.specs.declared.alt_svc.AltSvc.{AltSvc}

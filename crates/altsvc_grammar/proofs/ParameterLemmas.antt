@@ -1,5 +1,5 @@
 -- The steps of reading parameters, in an input from a place on.
-use Rattle.std.proofs.Common.{◌≡◌, ℕ, suc, ◌+◌, ◌-◌, ◌≤◌, ◌<◌, Bool, true, false, nat_eq, List, [], ◌∷◌, length, take, drop, Result, Ok, Err, refl, ap, sym, ◌∙◌, arith}
+use Rattle.std.proofs.Common.{◌≡◌, ℕ, suc, ◌+◌, ◌-◌, ◌<◌, true, false, List, [], ◌∷◌, length, take, drop, Result, Ok, refl, ap, sym, ◌∙◌, arith}
 use Rattle.alt_base.specs.declared.refusal.At.{At}
 use Rattle.field_text.specs.BlanksReading.{read_blanks, after_blanks}
 use Rattle.field_text.specs.TokenGrammar.{SpellsToken}
@@ -8,7 +8,6 @@ use Rattle.field_text.proofs.TokenLemmas.{token_spelled, token_taken, token_rest
 use Rattle.altsvc_grammar.specs.declared.refusal.AltRefusal.{AltRefusal}
 use Rattle.altsvc_grammar.specs.declared.given.Given.{Given}
 use Rattle.altsvc_grammar.specs.Steps.{Step, begins_with}
-use Rattle.altsvc_grammar.specs.ProtocolReading.{is_bad_percent, bad_percent}
 use Rattle.altsvc_grammar.specs.ParameterReading.{read_parameter_value, read_parameter, noted_value, parameters_from, then_parameters, read_parameters, value_by_token, parameter_by_token, after_parameter_name}
 use Rattle.altsvc_grammar.proofs.Slices.{front_byte}
 

@@ -1,5 +1,5 @@
 -- The encoded form of a protocol is a token that is read as the protocol, up to the first bad `%`.
-use Rattle.std.proofs.Common.{◌≡◌, ◌≢◌, ℕ, zero, suc, ◌+◌, ◌-◌, ◌*◌, ◌/◌, ◌%◌, ◌≤◌, ◌<◌, Bool, true, false, cond, ◌&&◌, ◌||◌, not, nat_eq, nat_lt, nat_le, List, [], ◌∷◌, ◌++◌, length, All, Option, Some, None, Result, Ok, Err, refl, ap, ap₂, sym, ◌∙◌, subst, arith, length-append, append_assoc}
+use Rattle.std.proofs.Common.{◌≡◌, ◌≢◌, ℕ, zero, suc, ◌+◌, ◌*◌, ◌/◌, ◌%◌, ◌≤◌, ◌<◌, Bool, true, false, cond, ◌&&◌, not, nat_eq, nat_lt, List, [], ◌∷◌, ◌++◌, length, All, None, Ok, refl, ap, sym, ◌∙◌, arith, length-append, append_assoc}
 use Rattle.std.proofs.lemmas.Bool.Decides.{nat_tests}
 use Rattle.std.proofs.lemmas.List.Elements.{All-head, All-tail}
 use Rattle.std.specs.Fmt.{digit_glyph}
@@ -8,11 +8,10 @@ use Rattle.percent_encoding.proofs.PercentLemmas.{percent_decode-nil, percent_de
 use Rattle.field_text.specs.Runs.{AllIn}
 use Rattle.field_text.specs.TokenGrammar.{is_token}
 use Rattle.altsvc_grammar.specs.Written.{is_plain, encoded_byte, encoded}
-use Rattle.altsvc_grammar.specs.ProtocolReading.{is_upper_hex, hex_value, is_coded, is_bad_percent, bad_percent, read_protocol}
+use Rattle.altsvc_grammar.specs.ProtocolReading.{is_upper_hex, hex_value, is_coded, bad_percent, read_protocol}
 use Rattle.altsvc_grammar.specs.AuthorityGrammar.{IsProtocol}
 use Rattle.altsvc_grammar.specs.ParameterGrammar.{IsToken}
 use Rattle.altsvc_grammar.specs.Steps.{refused}
-use Rattle.altsvc_grammar.specs.declared.refusal.AltRefusal.{AltRefusal}
 use Rattle.altsvc_grammar.specs.declared.refusal.AltRefusal.TheVariants.{BadToken, BadPercent}
 
 -- what holds of the digits 0 to 15

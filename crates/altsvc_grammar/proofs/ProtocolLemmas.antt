@@ -1,5 +1,5 @@
 -- The steps of reading a protocol.
-use Rattle.std.proofs.Common.{◌≡◌, ℕ, ◌+◌, ◌<◌, false, List, ◌∷◌, length, drop, get_or, sym, ◌∙◌, arith, subst, refl, add-one, ap}
+use Rattle.std.proofs.Common.{◌≡◌, ℕ, ◌+◌, ◌<◌, false, List, ◌∷◌, length, drop, get_or, arith, subst, refl, add-one}
 use Rattle.std.proofs.Math.Seq.{drop-cons}
 use Rattle.altsvc_grammar.specs.ProtocolReading.{is_bad_percent, bad_percent}
 

@@ -1,13 +1,13 @@
--- The text of a host is quoted text.
-use Rattle.std.proofs.Common.{◌≡◌, ◌≢◌, ◌⊎◌, ℕ, ◌+◌, ◌-◌, ◌^◌, ◌≤◌, ◌<◌, Bool, true, false, cond, ◌&&◌, ◌||◌, nat_eq, nat_lt, nat_le, List, [], ◌∷◌, ◌++◌, length, codes, refl, ap, sym, ◌∙◌, subst, arith, inl, inr, IsTrue}
+-- Which bytes the text of a host has: it is quoted text.
+use Rattle.std.proofs.Common.{◌≡◌, ◌≢◌, ℕ, ◌+◌, ◌^◌, ◌≤◌, ◌<◌, Bool, true, false, cond, ◌&&◌, ◌||◌, not, nat_eq, nat_lt, nat_le, List, [], ◌∷◌, ◌++◌, codes, refl, sym, subst, arith, inl, inr}
 use Rattle.std.proofs.lemmas.Bool.Decides.{nat_tests}
-use Rattle.std.proofs.lemmas.Str.Parse.{digit_from_value, numerals_by_value, tells_digits, IsNumeralModel}
-use Rattle.std.proofs.lemmas.Fmt.{decimal_nonempty, digits_decimal}
+use Rattle.std.proofs.lemmas.Str.Parse.{numerals_by_value, tells_digits, IsNumeralModel}
+use Rattle.std.proofs.lemmas.Fmt.{digits_decimal}
+use Rattle.std.specs.List.{list_any}
 use Rattle.std.specs.Char.{is_ascii_digit, digit_value}
 use Rattle.std.specs.Fmt.{decimal}
 use Rattle.std.specs.Str.Parse.{AllDigits, digits_value}
-use Rattle.std.specs.Net.Grammar.{IsDotted, IsGroupsAfter, IsGroup, IsColonHex, IsElided}
-use Rattle.std.specs.Net.Addr.{segments_of}
+use Rattle.std.specs.Net.Grammar.{IsDotted, IsGroupsAfter, IsColonHex}
 use Rattle.alt_base.specs.Classes.{in_ranges, host_name_class}
 use Rattle.field_text.specs.Runs.{AllIn}
 use Rattle.field_text.specs.QuotedGrammar.{is_quoted_text}
@@ -74,14 +74,16 @@ digit_quoted b h = graphic_quoted b (low b h) (high b h) (λ e. absurd (backslas
   where
     low : (b : ℕ) → digit_value b < 16 → 35 ≤ b
     low b h = grind (arith, nat_tests)
+
     high : (b : ℕ) → digit_value b < 16 → b ≤ 126
     high b h = grind (arith, nat_tests)
+
     backslash : digit_value 92 < 16 → ⊥
     backslash h = omega arith
 
-digits_quoted : (radix : ℕ) (x : List ℕ) → radix ≤ 16 → AllDigits radix x → AllIn is_quoted_text x
-digits_quoted radix [] few valid = tt
-digits_quoted radix (b ∷ bs) few valid = (digit_quoted b (omega (arith, valid.0)), digits_quoted radix bs few valid.1)
+pub digits_in : (class : ℕ → Bool) (digit : (b : ℕ) → digit_value b < 16 → class b ≡ true) (radix : ℕ) (x : List ℕ) → radix ≤ 16 → AllDigits radix x → AllIn class x
+digits_in class digit radix [] few valid = tt
+digits_in class digit radix (b ∷ bs) few valid = (digit b (omega (arith, valid.0)), digits_in class digit radix bs few valid.1)
 
 numerals : IsNumeralModel (AllDigits 10) (digits_value 10)
 numerals = numerals_by_value (AllDigits 10) tells_digits
@@ -89,46 +91,42 @@ numerals = numerals_by_value (AllDigits 10) tells_digits
 pub decimal_digits : (n : ℕ) → n < 2 ^ 64 → AllDigits 10 (decimal n)
 decimal_digits n small = digits_decimal numerals n small
 
-pub decimal_quoted : (n : ℕ) → n < 2 ^ 64 → AllIn is_quoted_text (decimal n)
-decimal_quoted n small = digits_quoted 10 (decimal n) (omega arith) (decimal_digits n small)
+decimal_in : (class : ℕ → Bool) (digit : (b : ℕ) → digit_value b < 16 → class b ≡ true) (n : ℕ) → n < 256 → AllIn class (decimal n)
+decimal_in class digit n small = digits_in class digit 10 (decimal n) (omega arith) (decimal_digits n (omega arith))
 
-quoted_append : (x y : List ℕ) → AllIn is_quoted_text x → AllIn is_quoted_text y → AllIn is_quoted_text (x ++ y)
-quoted_append x y h k = all_append is_quoted_text x y h k
+pub decimal_quoted : (n : ℕ) → n < 2 ^ 64 → AllIn is_quoted_text (decimal n)
+decimal_quoted n small = digits_in is_quoted_text digit_quoted 10 (decimal n) (omega arith) (decimal_digits n small)
 
 -- addresses
-pub dotted_quoted : (text octets : List ℕ) → IsDotted text octets → AllIn is_quoted_text text
-dotted_quoted text octets s =
-    let wide : (n : ℕ) → n < 256 → n < 2 ^ 64 = λ n h. omega arith in
-    let a = decimal_quoted s.a (wide s.a s.fit.0) in
-    let b = decimal_quoted s.b (wide s.b s.fit.1) in
-    let c = decimal_quoted s.c (wide s.c s.fit.2) in
-    let d = decimal_quoted s.d (wide s.d s.fit.3) in
-    let dot : AllIn is_quoted_text (codes ".") = (refl, tt) in
+dotted_in : (class : ℕ → Bool) (digit : (b : ℕ) → digit_value b < 16 → class b ≡ true) (dot : class 46 ≡ true) (text octets : List ℕ) → IsDotted text octets → AllIn class text
+dotted_in class digit dot text octets s =
+    let join = all_append class in
+    let point : AllIn class (codes ".") = (dot, tt) in
     let x1 = decimal s.a ++ codes "." in
     let x2 = x1 ++ decimal s.b in
     let x3 = x2 ++ codes "." in
     let x4 = x3 ++ decimal s.c in
     let x5 = x4 ++ codes "." in
-    let q1 = quoted_append (decimal s.a) (codes ".") a dot in
-    let q2 = quoted_append x1 (decimal s.b) q1 b in
-    let q3 = quoted_append x2 (codes ".") q2 dot in
-    let q4 = quoted_append x3 (decimal s.c) q3 c in
-    let q5 = quoted_append x4 (codes ".") q4 dot in
-    subst (AllIn is_quoted_text) (sym s.spelled) (quoted_append x5 (decimal s.d) q5 d)
+    let q1 = join (decimal s.a) (codes ".") (decimal_in class digit s.a s.fit.0) point in
+    let q2 = join x1 (decimal s.b) q1 (decimal_in class digit s.b s.fit.1) in
+    let q3 = join x2 (codes ".") q2 point in
+    let q4 = join x3 (decimal s.c) q3 (decimal_in class digit s.c s.fit.2) in
+    let q5 = join x4 (codes ".") q4 point in
+    subst (AllIn class) (sym s.spelled) (join x5 (decimal s.d) q5 (decimal_in class digit s.d s.fit.3))
 
-groups_quoted : (ipv4 : Bool) (lead text segments : List ℕ) → AllIn is_quoted_text lead → IsGroupsAfter ipv4 lead text segments → AllIn is_quoted_text text
-groups_quoted ipv4 lead text [] h s = subst (AllIn is_quoted_text) (sym s) tt
-groups_quoted ipv4 lead text (seg ∷ segments) h (inl s) =
-    let group = digits_quoted 16 s.0 (omega arith) s.3.0.0.1 in
-    subst (AllIn is_quoted_text) (sym s.2) (quoted_append (lead ++ s.0) s.1 (quoted_append lead s.0 h group) (groups_quoted ipv4 (codes ":") s.1 segments (refl, tt) s.4))
-groups_quoted ipv4 lead text (seg ∷ segments) h (inr s) =
-    subst (AllIn is_quoted_text) (sym s.3) (quoted_append lead s.0 h (dotted_quoted s.0 s.1 s.4))
+groups_in : (class : ℕ → Bool) (digit : (b : ℕ) → digit_value b < 16 → class b ≡ true) (dot : class 46 ≡ true) (colon : class 58 ≡ true) (ipv4 : Bool) (lead text segments : List ℕ) → AllIn class lead → IsGroupsAfter ipv4 lead text segments → AllIn class text
+groups_in class digit dot colon ipv4 lead text [] h s = subst (AllIn class) (sym s) tt
+groups_in class digit dot colon ipv4 lead text (seg ∷ segments) h (inl s) =
+    let group = digits_in class digit 16 s.0 (omega arith) s.3.0.0.1 in
+    subst (AllIn class) (sym s.2) (all_append class (lead ++ s.0) s.1 (all_append class lead s.0 h group) (groups_in class digit dot colon ipv4 (codes ":") s.1 segments (colon, tt) s.4))
+groups_in class digit dot colon ipv4 lead text (seg ∷ segments) h (inr s) =
+    subst (AllIn class) (sym s.3) (all_append class lead s.0 h (dotted_in class digit dot s.0 s.1 s.4))
 
-hex_quoted : (text segments : List ℕ) → IsColonHex text segments → AllIn is_quoted_text text
-hex_quoted text segments (inl s) = groups_quoted true [] text segments tt s.0
-hex_quoted text segments (inr s) =
-    let two : AllIn is_quoted_text (codes "::") = (refl, (refl, tt)) in
-    subst (AllIn is_quoted_text) (sym s.spelled) (quoted_append (s.head_text ++ codes "::") s.tail_text (quoted_append s.head_text (codes "::") (groups_quoted false [] s.head_text s.head tt s.head_groups) two) (groups_quoted true [] s.tail_text s.tail tt s.tail_groups))
+hex_in : (class : ℕ → Bool) (digit : (b : ℕ) → digit_value b < 16 → class b ≡ true) (dot : class 46 ≡ true) (colon : class 58 ≡ true) (text segments : List ℕ) → IsColonHex text segments → AllIn class text
+hex_in class digit dot colon text segments (inl s) = groups_in class digit dot colon true [] text segments tt s.0
+hex_in class digit dot colon text segments (inr s) =
+    let two : AllIn class (codes "::") = (colon, (colon, tt)) in
+    subst (AllIn class) (sym s.spelled) (all_append class (s.head_text ++ codes "::") s.tail_text (all_append class s.head_text (codes "::") (groups_in class digit dot colon false [] s.head_text s.head tt s.head_groups) two) (groups_in class digit dot colon true [] s.tail_text s.tail tt s.tail_groups))
 
 -- names
 and_none : (a : Bool) → (a && false) ≡ false
@@ -143,12 +141,15 @@ name_byte_quoted b h = graphic_quoted b (low (nat_le 35 b) refl) (high (nat_le b
   where
     below : b < 35 → in_ranges host_name_class b ≡ false
     below i = rw (not_le 45 b (omega arith), not_le 48 b (omega arith), not_le 65 b (omega arith), not_le 95 b (omega arith), not_le 97 b (omega arith)) refl
+
     above : 126 < b → in_ranges host_name_class b ≡ false
     above i = rw (not_le b 45 (omega arith), not_le b 57 (omega arith), not_le b 90 (omega arith), not_le b 95 (omega arith), not_le b 122 (omega arith))
         (rw (and_none (nat_le 45 b), and_none (nat_le 48 b), and_none (nat_le 65 b), and_none (nat_le 95 b), and_none (nat_le 97 b)) refl)
+
     low : (t : Bool) → nat_le 35 b ≡ t → 35 ≤ b
     low true is = le_fact 35 b is
     low false is = absurd (both_ways (in_ranges host_name_class b) h (below (lt_fact 35 b is)))
+
     high : (t : Bool) → nat_le b 126 ≡ t → b ≤ 126
     high true is = le_fact b 126 is
     high false is = absurd (both_ways (in_ranges host_name_class b) h (above (lt_fact b 126 is)))
@@ -158,25 +159,62 @@ both true true h = (refl, refl)
 both true false h = cc
 both false b h = cc
 
-labels_quoted : (text : List ℕ) (count : ℕ) (digits : Bool) → are_labels count digits text ≡ true → AllIn is_quoted_text text
-labels_quoted [] count digits h = tt
-labels_quoted (b ∷ bs) count digits h = go (nat_eq b 46) refl h (λ c d k. labels_quoted bs c d k)
+labels_in : (class : ℕ → Bool) (name : (b : ℕ) → in_ranges host_name_class b ≡ true → class b ≡ true) (dot : class 46 ≡ true) (text : List ℕ) (count : ℕ) (digits : Bool) → are_labels count digits text ≡ true → AllIn class text
+labels_in class name dot [] count digits h = tt
+labels_in class name dot (b ∷ bs) count digits h = go (nat_eq b 46) refl h (λ c d k. labels_in class name dot bs c d k)
   where
     go : (t : Bool) → nat_eq b 46 ≡ t → cond t (nat_lt 0 count && are_labels 0 true bs) (nat_lt count 63 && (in_ranges host_name_class b && are_labels (count + 1) (digits && is_ascii_digit b) bs)) ≡ true
-        → ((c : ℕ) (d : Bool) → are_labels c d bs ≡ true → AllIn is_quoted_text bs) → (is_quoted_text b ≡ true) × AllIn is_quoted_text bs
-    go true is h rest = (subst (λ c. is_quoted_text c ≡ true) (sym (eq_fact b 46 is)) refl, rest 0 true (both (nat_lt 0 count) (are_labels 0 true bs) h).1)
+        → ((c : ℕ) (d : Bool) → are_labels c d bs ≡ true → AllIn class bs) → (class b ≡ true) × AllIn class bs
+    go true is h rest = (subst (λ c. class c ≡ true) (sym (eq_fact b 46 is)) dot, rest 0 true (both (nat_lt 0 count) (are_labels 0 true bs) h).1)
     go false is h rest =
         let inner = (both (nat_lt count 63) (in_ranges host_name_class b && are_labels (count + 1) (digits && is_ascii_digit b) bs) h).1 in
         let tests = both (in_ranges host_name_class b) (are_labels (count + 1) (digits && is_ascii_digit b) bs) inner in
-        (name_byte_quoted b tests.0, rest (count + 1) (digits && is_ascii_digit b) tests.1)
+        (name b tests.0, rest (count + 1) (digits && is_ascii_digit b) tests.1)
 
 spelled_quoted : (text : List ℕ) (host : Host) → SpellsHost text host → AllIn is_quoted_text text
-spelled_quoted text (Name name) s = labels_quoted text 0 true (name_labels text name s)
-spelled_quoted text (V4 bytes) s = dotted_quoted text bytes s
+spelled_quoted text (Name name) s = labels_in is_quoted_text name_byte_quoted refl text 0 true (name_labels text name s)
+spelled_quoted text (V4 bytes) s = dotted_in is_quoted_text digit_quoted refl text bytes s
 spelled_quoted text (V6 bytes) s =
-    let open_ : AllIn is_quoted_text (codes "[") = (refl, tt) in
-    let close : AllIn is_quoted_text (codes "]") = (refl, tt) in
-    subst (AllIn is_quoted_text) (sym s.spelled) (quoted_append (codes "[" ++ s.inner) (codes "]") (quoted_append (codes "[") s.inner open_ (hex_quoted s.inner s.address.groups s.address.spelled)) close)
+    let opening : AllIn is_quoted_text (codes "[") = (refl, tt) in
+    let closing : AllIn is_quoted_text (codes "]") = (refl, tt) in
+    let inner = hex_in is_quoted_text digit_quoted refl refl s.inner s.address.groups s.address.spelled in
+    subst (AllIn is_quoted_text) (sym s.spelled) (all_append is_quoted_text (codes "[" ++ s.inner) (codes "]") (all_append is_quoted_text (codes "[") s.inner opening inner) closing)
 
 pub host_quoted : (host : Host) → IsHost host → AllIn is_quoted_text (host_text host)
 host_quoted host valid = spelled_quoted (host_text host) host (host_written host valid)
+
+-- a byte other than this one
+abbrev pub is_other : ℕ → ℕ → Bool
+is_other byte b = not (nat_eq b byte)
+
+other_digit : (byte b : ℕ) → (digit_value byte < 16 → ⊥) → digit_value b < 16 → is_other byte b ≡ true
+other_digit byte b none h = go (nat_eq b byte) refl
+  where
+    go : (t : Bool) → nat_eq b byte ≡ t → not t ≡ true
+    go true is = absurd (none (subst (λ d. digit_value d < 16) (eq_fact b byte is) h))
+    go false is = refl
+
+other_name : (byte b : ℕ) → in_ranges host_name_class byte ≡ false → in_ranges host_name_class b ≡ true → is_other byte b ≡ true
+other_name byte b none h = go (nat_eq b byte) refl
+  where
+    go : (t : Bool) → nat_eq b byte ≡ t → not t ≡ true
+    go true is = absurd (both_ways (in_ranges host_name_class byte) (subst (λ d. in_ranges host_name_class d ≡ true) (eq_fact b byte is) h) none)
+    go false is = refl
+
+pub none_of : (byte : ℕ) (x : List ℕ) → AllIn (is_other byte) x → list_any (λ b. nat_eq b byte) x ≡ false
+none_of byte [] h = refl
+none_of byte (b ∷ bs) h = rw (not_true (nat_eq b byte) h.0) (none_of byte bs h.1)
+  where
+    not_true : (t : Bool) → not t ≡ true → t ≡ false
+    not_true true h = cc
+    not_true false h = refl
+
+-- a name and an IPv4 address have neither a colon nor an opening bracket, and an IPv6 address has no closing one
+pub name_without : (byte : ℕ) (text name : List ℕ) → in_ranges host_name_class byte ≡ false → is_other byte 46 ≡ true → SpellsName text name → list_any (λ b. nat_eq b byte) text ≡ false
+name_without byte text name none dot s = none_of byte text (labels_in (is_other byte) (λ b h. other_name byte b none h) dot text 0 true (name_labels text name s))
+
+pub dotted_without : (byte : ℕ) (text octets : List ℕ) → (digit_value byte < 16 → ⊥) → is_other byte 46 ≡ true → IsDotted text octets → list_any (λ b. nat_eq b byte) text ≡ false
+dotted_without byte text octets none dot s = none_of byte text (dotted_in (is_other byte) (λ b h. other_digit byte b none h) dot text octets s)
+
+pub hex_without : (byte : ℕ) (text segments : List ℕ) → (digit_value byte < 16 → ⊥) → is_other byte 46 ≡ true → is_other byte 58 ≡ true → IsColonHex text segments → list_any (λ b. nat_eq b byte) text ≡ false
+hex_without byte text segments none dot colon s = none_of byte text (hex_in (is_other byte) (λ b h. other_digit byte b none h) dot colon text segments s)

@@ -1,17 +1,16 @@
 -- The reading of a value that the table refuses.
-use Rattle.std.proofs.Common.{◌≡◌, ◌≢◌, ◌⊎◌, ℕ, suc, ◌+◌, ◌-◌, ◌≤◌, ◌<◌, Bool, true, false, nat_eq, List, [], ◌∷◌, ◌++◌, length, Result, Ok, Err, refl, ap, sym, ◌∙◌, subst, arith, length-append, append_assoc, inl, inr}
+use Rattle.std.proofs.Common.{◌≡◌, ◌≢◌, ◌⊎◌, ℕ, ◌+◌, ◌-◌, ◌≤◌, ◌<◌, false, nat_eq, List, [], ◌∷◌, ◌++◌, length, Result, refl, ap, sym, ◌∙◌, subst, arith, append_assoc, inl, inr}
 use Rattle.alt_base.specs.declared.refusal.At.{At}
-use Rattle.field_text.specs.Runs.{AllIn, BeginsIn}
+use Rattle.field_text.specs.Runs.{BeginsIn}
 use Rattle.field_text.specs.BlanksGrammar.{is_blank}
-use Rattle.field_text.specs.TokenGrammar.{is_token}
 use Rattle.altsvc_grammar.specs.declared.refusal.AltRefusal.{AltRefusal}
 use Rattle.altsvc_grammar.specs.declared.refusal.AltRefusal.TheVariants.{Empty, BadToken, BadPercent, NoEquals, BadQuoted, BadAuthority, BadParameter, Trailing, TooLong}
 use Rattle.altsvc_grammar.specs.Written.{encoded}
-use Rattle.altsvc_grammar.specs.Steps.{Step, begins_with, refused}
+use Rattle.altsvc_grammar.specs.Steps.{begins_with, refused}
 use Rattle.altsvc_grammar.specs.ParameterGrammar.{IsToken}
 use Rattle.altsvc_grammar.specs.ValueReading.{Seen, read_element, element_seen, after_element, then_elements, value_of_seen, read_value, most_bytes}
-use Rattle.altsvc_grammar.specs.ValueGrammar.{Slot, AreSlots, slots_before, Element, Clear, Offered, element_then, IsElement}
-use Rattle.altsvc_grammar.specs.ValueRefusals.{Begins, IsNoToken, IsLongProtocol, IsNoEquals, IsBadPercent, IsBadQuoted, IsBadAuthority, IsBadParameter, IsTrailing, EndsElement, IsRefusedElement, ValueRefusedAt}
+use Rattle.altsvc_grammar.specs.ValueGrammar.{slots_before, Element, Clear, Offered, element_then}
+use Rattle.altsvc_grammar.specs.ValueRefusals.{Begins, IsNoToken, IsLongProtocol, IsNoEquals, IsBadPercent, IsBadQuoted, IsBadAuthority, IsBadParameter, IsTrailing, EndsElement, ValueRefusedAt}
 use Rattle.altsvc_grammar.proofs.Spelling.{no_blank_front, no_comma_front, quoted_then}
 use Rattle.altsvc_grammar.proofs.Percents.{encoded_token, bad_token}
 use Rattle.altsvc_grammar.proofs.SpelledElements.{Ends, element_read, no_token_read, no_equals_read, bad_percent_element, bad_quoted_read, bad_authority_read, bad_parameter_read}

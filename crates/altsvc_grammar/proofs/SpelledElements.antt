@@ -1,34 +1,30 @@
 -- Reading an element that is spelled so, or that is refused.
-use Rattle.std.proofs.Common.{◌≡◌, ◌≢◌, ◌⊎◌, ℕ, suc, ◌+◌, ◌-◌, ◌≤◌, ◌<◌, Bool, true, false, cond, ◌&&◌, nat_eq, List, [], ◌∷◌, ◌++◌, length, codes, All, Option, Some, None, Result, Ok, Err, refl, ap, sym, ◌∙◌, subst, arith, length-append, append_assoc, inl, inr}
+use Rattle.std.proofs.Common.{◌≡◌, ◌≢◌, ℕ, suc, ◌+◌, ◌-◌, ◌≤◌, ◌<◌, Bool, true, false, ◌&&◌, nat_eq, List, [], ◌∷◌, ◌++◌, length, codes, All, Option, Ok, refl, ap, sym, ◌∙◌, subst, arith, length-append, append_assoc}
 use Rattle.std.specs.Cmp.Lexicographic.{pointwise}
-use Rattle.alt_base.specs.declared.refusal.At.{At}
 use Rattle.field_text.specs.declared.text_refusal.TextRefusal.{TextRefusal}
 use Rattle.field_text.specs.declared.text_refusal.TextRefusal.TheVariants.{Empty}
 use Rattle.field_text.specs.Runs.{AllIn, BeginsIn}
 use Rattle.field_text.specs.BlanksGrammar.{is_blank}
-use Rattle.field_text.specs.BlanksReading.{read_blanks, after_blanks}
+use Rattle.field_text.specs.BlanksReading.{read_blanks}
 use Rattle.field_text.specs.TokenGrammar.{is_token}
-use Rattle.field_text.specs.TokenReading.{read_token, token_of, after_token}
 use Rattle.field_text.specs.QuotedGrammar.{Part, parts_text, parts_bytes, AreParts, QuotedRefusedAt}
 use Rattle.field_text.specs.QuotedReading.{read_quoted}
 use Rattle.field_text.proofs.TokenLemmas.{token_refused}
 use Rattle.field_text.proofs.QuotedLemmas.{quoted_refused}
 use Rattle.origin_values.specs.declared.host.Host.{Host}
-use Rattle.altsvc_grammar.specs.declared.refusal.AltRefusal.{AltRefusal}
 use Rattle.altsvc_grammar.specs.declared.refusal.AltRefusal.TheVariants.{BadToken, BadPercent, NoEquals, BadQuoted, BadAuthority, BadParameter}
 use Rattle.altsvc_grammar.specs.declared.alt_key.AltKey.{AltKey}
 use Rattle.altsvc_grammar.specs.declared.element.Element as code
 use Rattle.altsvc_grammar.specs.declared.element.Element.TheVariants as code_element
-use Rattle.altsvc_grammar.specs.declared.given.Given.{Given}
-use Rattle.altsvc_grammar.specs.Steps.{Step, begins_with, refused}
+use Rattle.altsvc_grammar.specs.Steps.{begins_with, refused}
 use Rattle.altsvc_grammar.specs.Written.{encoded_byte, encoded}
 use Rattle.altsvc_grammar.specs.ProtocolReading.{read_protocol}
 use Rattle.altsvc_grammar.specs.AuthorityReading.{read_authority}
 use Rattle.altsvc_grammar.specs.AuthorityGrammar.{IsProtocol, SpellsAuthority}
-use Rattle.altsvc_grammar.specs.ParameterReading.{read_parameters, nothing_given, then_parameters, read_parameter}
-use Rattle.altsvc_grammar.specs.ParameterGrammar.{IsToken, ParameterValue, Token, Quoted, value_then, EndsValue, Parameter, parameters_then, AreParameters, EndsParameters, ma_of, persist_of, ParameterRefused}
+use Rattle.altsvc_grammar.specs.ParameterReading.{read_parameters, nothing_given, then_parameters}
+use Rattle.altsvc_grammar.specs.ParameterGrammar.{IsToken, ParameterValue, Token, Quoted, value_then, EndsValue, Parameter, parameters_then, EndsParameters, ParameterRefused}
 use Rattle.altsvc_grammar.specs.ValueReading.{read_element, element_by_token, after_element_token, lone_token, with_protocol, authority_by_quoted, with_authority, with_terms}
-use Rattle.altsvc_grammar.specs.ValueGrammar.{Alternative, alternative_then, IsAlternative, alt_meant, Element, Clear, Offered, element_then, IsElement}
+use Rattle.altsvc_grammar.specs.ValueGrammar.{Alternative, alternative_then, IsAlternative, Element, Clear, Offered, element_then, IsElement}
 use Rattle.altsvc_grammar.proofs.Spelling.{blanks_end, blanks_place, no_token_front, token_read, token_is, token_after, quoted_then, quoted_read, quoted_is, quoted_after}
 use Rattle.altsvc_grammar.proofs.Percents.{protocol_read, long_protocol_read, bad_percent_read, encoded_token, bad_token}
 use Rattle.altsvc_grammar.proofs.Authorities.{authority_read, no_authority}

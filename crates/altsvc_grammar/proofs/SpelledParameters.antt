@@ -1,16 +1,13 @@
 -- Reading parameters that are spelled so.
-use Rattle.std.proofs.Common.{◌≡◌, ◌≢◌, ◌⊎◌, ℕ, suc, ◌+◌, ◌-◌, ◌≤◌, ◌<◌, Bool, true, false, cond, nat_eq, List, [], ◌∷◌, ◌++◌, length, codes, Option, Some, None, Result, Ok, Err, refl, ap, sym, ◌∙◌, subst, arith, length-append, inl, inr}
+use Rattle.std.proofs.Common.{◌≡◌, ℕ, suc, ◌+◌, ◌-◌, ◌≤◌, Bool, true, false, cond, List, [], ◌∷◌, ◌++◌, length, codes, Option, Some, None, Result, Ok, refl, ap, ◌∙◌, subst, arith, length-append, inl, inr}
 use Rattle.alt_base.specs.declared.refusal.At.{At}
 use Rattle.field_text.specs.declared.text_refusal.TextRefusal.{TextRefusal}
 use Rattle.field_text.specs.declared.text_refusal.TextRefusal.TheVariants.{Empty}
-use Rattle.field_text.specs.Refusals as text
 use Rattle.field_text.specs.Runs.{AllIn, BeginsIn}
 use Rattle.field_text.specs.BlanksGrammar.{is_blank}
 use Rattle.field_text.specs.BlanksReading.{read_blanks, after_blanks}
 use Rattle.field_text.specs.TokenGrammar.{is_token}
-use Rattle.field_text.specs.TokenReading.{read_token, token_of, after_token}
-use Rattle.field_text.specs.QuotedGrammar.{Part, parts_text, parts_bytes, AreParts, QuotedRefusedAt}
-use Rattle.field_text.specs.QuotedReading.{read_quoted}
+use Rattle.field_text.specs.QuotedGrammar.{parts_text, QuotedRefusedAt}
 use Rattle.field_text.proofs.TokenLemmas.{token_refused}
 use Rattle.field_text.proofs.QuotedLemmas.{quoted_refused}
 use Rattle.altsvc_grammar.specs.declared.refusal.AltRefusal.{AltRefusal}
@@ -19,7 +16,7 @@ use Rattle.altsvc_grammar.specs.declared.given.Given.{Given}
 use Rattle.altsvc_grammar.specs.declared.terms.Terms.{Terms}
 use Rattle.altsvc_grammar.specs.Steps.{Step, begins_with, refused}
 use Rattle.altsvc_grammar.specs.ParameterReading.{is_named, is_one, ma_value, or_else, noted, note, nothing_given, terms_of, value_by_token, value_by_quoted, read_parameter_value, noted_value, after_parameter_name, parameter_by_token, read_parameter, then_parameters, parameters_from, read_parameters}
-use Rattle.altsvc_grammar.specs.ParameterGrammar.{ParameterValue, Token, Quoted, value_then, value_bytes, IsToken, IsParameterValue, EndsValue, Parameter, parameter_then, IsParameter, parameters_then, AreParameters, EndsParameters, first_named, ma_of, ma_said, persist_of, persist_said, IsNoName, IsNoValue, IsBadValue, ParameterRefused}
+use Rattle.altsvc_grammar.specs.ParameterGrammar.{ParameterValue, Token, Quoted, value_then, value_bytes, IsToken, IsParameterValue, EndsValue, Parameter, parameters_then, AreParameters, EndsParameters, first_named, ma_of, ma_said, persist_of, persist_said, ParameterRefused}
 use Rattle.altsvc_grammar.proofs.Spelling.{blanks_end, blanks_place, no_blank_front, no_token_front, token_read, token_is, token_after, quoted_then, quoted_read, quoted_is, quoted_after}
 
 -- a value

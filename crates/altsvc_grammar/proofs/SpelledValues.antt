@@ -1,29 +1,20 @@
 -- Reading a value that is spelled so, or that is refused.
-use Rattle.std.proofs.Common.{◌≡◌, ◌≢◌, ◌⊎◌, ℕ, suc, ◌+◌, ◌-◌, ◌≤◌, ◌<◌, Bool, true, false, cond, ◌&&◌, ◌||◌, nat_eq, nat_lt, List, [], ◌∷◌, ◌++◌, length, map, codes, Option, Some, None, Result, Ok, Err, refl, ap, ap₂, sym, ◌∙◌, subst, arith, length-append, append_assoc, inl, inr}
-use Rattle.std.specs.List.{list_any}
+use Rattle.std.proofs.Common.{◌≡◌, ℕ, suc, ◌+◌, ◌-◌, ◌≤◌, ◌<◌, Bool, true, false, nat_eq, List, [], ◌∷◌, ◌++◌, length, codes, Option, Some, None, Result, Ok, refl, ap, sym, ◌∙◌, subst, arith, length-append}
 use Rattle.alt_base.specs.declared.refusal.At.{At}
 use Rattle.field_text.specs.Runs.{AllIn, BeginsIn}
 use Rattle.field_text.specs.BlanksGrammar.{is_blank}
 use Rattle.field_text.specs.BlanksReading.{read_blanks, after_blanks}
 use Rattle.field_text.specs.TokenGrammar.{is_token}
-use Rattle.field_text.specs.QuotedGrammar.{parts_text}
 use Rattle.altsvc_grammar.specs.declared.refusal.AltRefusal.{AltRefusal}
-use Rattle.altsvc_grammar.specs.declared.refusal.AltRefusal.TheVariants.{Empty, BadToken, BadPercent, NoEquals, BadQuoted, BadAuthority, BadParameter, Trailing, TooLong}
-use Rattle.altsvc_grammar.specs.declared.alt_key.AltKey.{AltKey}
-use Rattle.altsvc_grammar.specs.declared.alt.Alt.{Alt}
-use Rattle.altsvc_grammar.specs.declared.alt_svc.AltSvc.{AltSvc}
-use Rattle.altsvc_grammar.specs.declared.alt_svc.AltSvc.TheVariants as value
-use Rattle.altsvc_grammar.specs.declared.terms.Terms.{Terms}
-use Rattle.altsvc_grammar.specs.Keys.{key_eq}
 use Rattle.altsvc_grammar.specs.Written.{encoded}
-use Rattle.altsvc_grammar.specs.Steps.{Step, begins_with, refused}
+use Rattle.altsvc_grammar.specs.Steps.{begins_with, refused}
 use Rattle.altsvc_grammar.specs.ParameterGrammar.{IsToken, ParameterValue, Token, Quoted, EndsValue, Parameter, EndsParameters, parameters_then}
-use Rattle.altsvc_grammar.specs.ValueReading.{Seen, nothing_seen, see, keep, seen_element, element_seen, after_element, then_elements, read_elements, read_element, alt_of, listed, value_of, value_of_seen, read_value, most_bytes}
-use Rattle.altsvc_grammar.specs.ValueGrammar.{Alternative, alternative_then, alt_meant, Element, Clear, Offered, element_then, IsElement, Slot, slot_then, optional_then, IsOptionalElement, IsSlot, slots_before, AreSlots, with_element, elements_of, is_clear, alternatives_of, key_in, firsts, meaning, SpellsValue}
+use Rattle.altsvc_grammar.specs.ValueReading.{Seen, nothing_seen, see, seen_element, element_seen, then_elements, read_elements, read_element}
+use Rattle.altsvc_grammar.specs.ValueGrammar.{alternative_then, Element, Clear, Offered, element_then, IsElement, Slot, slot_then, optional_then, IsOptionalElement, IsSlot, slots_before, AreSlots, with_element, elements_of}
 use Rattle.altsvc_grammar.proofs.Spelling.{after_pass, blanks_end, blanks_place, no_blank_front, no_comma_front, no_token_front, quoted_then}
 use Rattle.altsvc_grammar.proofs.Percents.{encoded_token}
 use Rattle.altsvc_grammar.proofs.SpelledParameters.{more_than}
-use Rattle.altsvc_grammar.proofs.SpelledElements.{clear_token, element_meant, Ends, element_read, alternative_count, more_than_is, no_token_read, long_read, no_equals_read, bad_percent_element, bad_quoted_read, bad_authority_read, bad_parameter_read}
+use Rattle.altsvc_grammar.proofs.SpelledElements.{clear_token, element_meant, Ends, element_read, alternative_count, more_than_is}
 use Rattle.altsvc_grammar.proofs.ElementLemmas.{seen_at}
 
 -- what stands behind a slot: the end, or a comma

@@ -1,7 +1,6 @@
 -- Reading tokens, quoted strings and blanks that a text begins with. A rest of a text of n bytes begins at the place
 -- n less the length of the rest.
-use Rattle.std.proofs.Common.{◌≡◌, ◌≢◌, ◌⊎◌, ℕ, ◌+◌, ◌-◌, ◌≤◌, ◌<◌, Bool, true, false, cond, ◌||◌, nat_eq, List, [], ◌∷◌, ◌++◌, length, Result, Ok, Err, refl, ap, sym, ◌∙◌, subst, arith, length-append}
-use Rattle.alt_base.specs.declared.refusal.At.{At}
+use Rattle.std.proofs.Common.{◌≡◌, ℕ, ◌+◌, ◌-◌, Bool, true, false, ◌||◌, nat_eq, List, [], ◌∷◌, ◌++◌, length, Ok, refl, ap, sym, ◌∙◌, subst, arith, length-append}
 use Rattle.field_text.specs.Runs.{AllIn, BeginsIn, run_of, after_run}
 use Rattle.field_text.specs.BlanksGrammar.{is_blank}
 use Rattle.field_text.specs.BlanksReading.{read_blanks, after_blanks}

@@ -1,15 +1,9 @@
 -- The reading of a value of Alt-Used against its grammar.
-use Rattle.std.proofs.Common.{◌≡◌, ◌≢◌, ◌⊎◌, ℕ, suc, ◌+◌, ◌-◌, ◌≤◌, ◌<◌, Bool, true, false, cond, ◌&&◌, ◌||◌, not, nat_eq, List, [], ◌∷◌, ◌++◌, length, take, drop, Option, Some, None, option_map, Result, Ok, Err, IfOk, refl, ap, sym, ◌∙◌, subst, arith, length-append, append_assoc, inl, inr}
-use Rattle.std.proofs.Math.Seq.{take-append_seam, drop-append-add}
+use Rattle.std.proofs.Common.{◌≡◌, ◌≢◌, ◌⊎◌, ℕ, ◌+◌, Bool, true, false, cond, ◌&&◌, ◌||◌, not, nat_eq, List, [], ◌∷◌, ◌++◌, length, take, drop, Option, Some, None, option_map, Ok, refl, ap, sym, ◌∙◌, subst, arith, length-append, inl, inr}
+use Rattle.std.proofs.Math.Seq.{take-append_seam}
 use Rattle.std.specs.List.{list_any, list_all}
 use Rattle.std.specs.Char.{is_ascii_digit}
-use Rattle.alt_base.specs.declared.refusal.At.{At}
-use Rattle.alt_base.specs.declared.refusal.Refused as Fails
-use Rattle.alt_base.specs.declared.refusal.Refused.TheVariants as fails
-use Rattle.field_text.specs.OneReading.{OneReading}
-use Rattle.field_text.specs.Runs.{AllIn, BeginsIn, IsLongestRun, run_of, after_run}
-use Rattle.field_text.proofs.RunLemmas.{longest_run}
-use Rattle.origin_values.specs.Gives.{Gives, IfRefused}
+use Rattle.field_text.specs.Runs.{AllIn, BeginsIn}
 use Rattle.origin_values.specs.HostGrammar.{SpellsHost}
 use Rattle.origin_values.specs.HostReading.{read_host}
 use Rattle.origin_values.specs.OriginReading.{bracket_end, count_before, digits_before}
@@ -19,7 +13,7 @@ use Rattle.altsvc_grammar.specs.Steps.{begins_with}
 use Rattle.altsvc_grammar.specs.AuthorityReading.{read_port}
 use Rattle.altsvc_grammar.specs.AuthorityGrammar.{SpellsPort}
 use Rattle.altsvc_grammar.specs.UsedReading.{used_refused, used_host_end, used_at_end, used_port, used_digits, after_used_host, with_used_host, used_by_end, read_used}
-use Rattle.altsvc_grammar.specs.UsedGrammar.{IsBracketed, IsPlain, IsHostRun, SpellsUsedPort, SpellsUsed, IsBadHost, IsBadPort, IsLeft, IsUsedTrailing, UsedRefusedAt, OneUsed}
+use Rattle.altsvc_grammar.specs.UsedGrammar.{IsHostRun, SpellsUsedPort, SpellsUsed, IsBadHost, IsBadPort, IsLeft, IsUsedTrailing, UsedRefusedAt}
 use Rattle.altsvc_grammar.specs.declared.refusal.UsedRefusal.{UsedRefusal}
 use Rattle.altsvc_grammar.specs.declared.refusal.UsedRefusal.TheVariants.{BadHost, BadPort, Trailing}
 use Rattle.altsvc_grammar.proofs.Authorities.{port_read, port_spelled, digits_all}
@@ -52,7 +46,7 @@ plain_at (b ∷ bs) tail h e =
     let t = either_false (nat_eq b 58) (list_any (λ c. nat_eq c 58) bs) h in
     rw (t.0, plain_at bs tail t.1 e) (omega arith)
 
-end_at : (run tail : List ℕ) → IsHostRun run tail → used_host_end (run ++ tail) ≡ Some (length run)
+pub end_at : (run tail : List ℕ) → IsHostRun run tail → used_host_end (run ++ tail) ≡ Some (length run)
 end_at run tail (inl b) =
     ap (λ xs. used_host_end (xs ++ tail)) b.spelled
     ∙ ap (option_map (λ n. n + 1)) (bracket_at b.inner tail b.first)
@@ -65,7 +59,7 @@ end_at [] (b ∷ bs) (inr p) = go p.longest
     go (inr e) = ap (λ c. used_host_end (c ∷ bs)) (eq_fact b 58 e)
 end_at (b ∷ bs) tail (inr p) = rw p.no_bracket (ap Some (plain_at (b ∷ bs) tail p.inside p.longest))
 
-taken : (run tail : List ℕ) → take (length run) (run ++ tail) ≡ run
+pub taken : (run tail : List ℕ) → take (length run) (run ++ tail) ≡ run
 taken run tail = take-append_seam run tail
 
 dropped : (run tail : List ℕ) → drop (length run) (run ++ tail) ≡ tail
@@ -100,7 +94,7 @@ at_port : (host : Host) (p : ℕ) (digits rest : List ℕ) (port : ℕ) → AllI
 at_port host p digits rest port h none s =
     at_digits host p digits rest h none ∙ ap (used_port host (p + 1) (length digits) (digits ++ rest)) (port_read digits port s) ∙ ap (used_at_end host port (p + 1 + length digits)) (dropped digits rest)
 
-append_none : (xs : List ℕ) → xs ++ [] ≡ xs
+pub append_none : (xs : List ℕ) → xs ++ [] ≡ xs
 append_none [] = refl
 append_none (b ∷ bs) = ap (λ ys. b ∷ ys) (append_none bs)
 
@@ -111,6 +105,7 @@ port_digits digits port s = ascii digits (digits_all digits s.numeral.1)
     both true true h = (refl, refl)
     both true false h = cc
     both false b h = cc
+
     ascii : (x : List ℕ) → list_all is_ascii_digit x ≡ true → AllIn is_ascii_digit x
     ascii [] h = tt
     ascii (b ∷ bs) h = let t = both (is_ascii_digit b) (list_all is_ascii_digit bs) h in (t.0, ascii bs t.1)
@@ -126,11 +121,11 @@ pub used_spelled : (x : List ℕ) (used : Host × ℕ) → SpellsUsed x used →
 used_spelled x used s = ap read_used s.text ∙ at_host s.run s.tail used.0 s.is_run s.of_host ∙ tail_read used.0 (length s.run) s.tail used.1 s.of_port
 
 -- each text has a host's run in front, or an open bracket
-record RunFront (x : List ℕ) : Type 0 where
-  run : List ℕ
-  tail : List ℕ
-  text : x ≡ run ++ tail
-  is_run : IsHostRun run tail
+pub record RunFront (x : List ℕ) : Type 0 where
+  pub run : List ℕ
+  pub tail : List ℕ
+  pub text : x ≡ run ++ tail
+  pub is_run : IsHostRun run tail
 
 record BracketFront (x : List ℕ) : Type 0 where
   inner : List ℕ
@@ -166,13 +161,14 @@ front_bracket : (x run tail : List ℕ) → x ≡ run ++ tail → begins_with 91
 front_bracket x [] tail e h = refl
 front_bracket x (b ∷ bs) tail e h = subst (λ xs. begins_with 91 xs ≡ false) e h
 
-run_front : (x : List ℕ) → (used_host_end x ≡ None) ⊎ RunFront x
+pub run_front : (x : List ℕ) → (used_host_end x ≡ None) ⊎ RunFront x
 run_front [] = inr (record { run = []; tail = []; text = refl; is_run = inr (record { inside = refl; no_bracket = refl; longest = inl refl }) })
 run_front (b ∷ bs) = go (nat_eq b 91) refl
   where
     closed : nat_eq b 91 ≡ true → (bracket_end bs ≡ None) ⊎ BracketFront bs → (used_host_end (b ∷ bs) ≡ None) ⊎ RunFront (b ∷ bs)
     closed is (inl e) = inl (rw (is, e) refl)
     closed is (inr f) = inr (record { run = 91 ∷ (f.inner ++ 93 ∷ []); tail = f.tail; text = ap (λ c. c ∷ bs) (eq_fact b 91 is) ∙ ap (λ xs. 91 ∷ xs) f.text; is_run = inl (record { inner = f.inner; spelled = refl; first = f.first }) })
+
     go : (t : Bool) → nat_eq b 91 ≡ t → (used_host_end (b ∷ bs) ≡ None) ⊎ RunFront (b ∷ bs)
     go true is = closed is (bracket_front bs)
     go false is =
@@ -188,6 +184,7 @@ bad_host_read x q s = go (run_front x) ∙ ap (λ k. used_refused k BadHost) (sy
     host : (f : RunFront x) (r : Option Host) → read_host f.run ≡ r → read_used x ≡ used_refused 0 BadHost
     host f None is = no_host_at x f.run f.tail f.text f.is_run is
     host f (Some found) is = absurd (s.none f.run f.tail found f.text f.is_run (read_host_sound f.run found is))
+
     go : (used_host_end x ≡ None) ⊎ RunFront x → read_used x ≡ used_refused 0 BadHost
     go (inl e) = ap (used_by_end x) e
     go (inr f) = host f (read_host f.run) refl

@@ -1,28 +1,26 @@
 -- The text that a value is written as spells it.
-use Rattle.std.proofs.Common.{◌≡◌, ◌≢◌, ◌⊎◌, ℕ, ◌+◌, ◌-◌, ◌^◌, ◌≤◌, ◌<◌, ◌==◌, Bool, true, false, cond, ◌&&◌, ◌||◌, nat_eq, nat_le, List, [], ◌∷◌, ◌++◌, length, codes, Option, Some, None, Result, Ok, Err, refl, ap, ap₂, sym, ◌∙◌, subst, arith, length-append, append_assoc, inl, inr}
-use Rattle.std.proofs.lemmas.List.{append-nil}
+use Rattle.std.proofs.Common.{◌≡◌, ℕ, ◌^◌, ◌≤◌, ◌<◌, ◌==◌, Bool, true, false, cond, ◌&&◌, ◌||◌, nat_le, List, [], ◌∷◌, ◌++◌, length, codes, Option, Some, None, refl, ap, ap₂, sym, ◌∙◌, arith, append_assoc}
 use Rattle.std.specs.List.{list_any, list_all}
-use Rattle.std.specs.Char.{is_ascii_digit, digit_value}
-use Rattle.std.specs.Fmt.{decimal, IsBoundedDecimal}
-use Rattle.std.specs.Str.Parse.{AllDigits, digits_value, IsNumeral}
+use Rattle.std.specs.Char.{is_ascii_digit}
+use Rattle.std.specs.Fmt.{decimal}
+use Rattle.std.specs.Str.Parse.{AllDigits}
 use Rattle.std.proofs.lemmas.Fmt.{decimal_is_IsNumeral, decimal_nonempty, length-decimal-le}
-use Rattle.field_text.specs.Runs.{AllIn, BeginsIn}
+use Rattle.field_text.specs.Runs.{AllIn}
 use Rattle.field_text.specs.BlanksGrammar.{is_blank}
 use Rattle.field_text.specs.TokenGrammar.{is_token}
 use Rattle.field_text.specs.QuotedGrammar.{is_quoted_text, Part, Raw, parts_text, parts_bytes, AreParts}
 use Rattle.field_text.proofs.DeltaLemmas.{delta_spelled, decimal_spells}
-use Rattle.origin_values.specs.Written.{host_text}
 use Rattle.origin_values.specs.declared.host.Host.{Host}
 use Rattle.origin_values.proofs.HostTexts.{host_written}
 use Rattle.altsvc_grammar.specs.declared.alt_key.AltKey.{AltKey}
 use Rattle.altsvc_grammar.specs.declared.alt.Alt.{Alt}
 use Rattle.altsvc_grammar.specs.declared.alt_svc.AltSvc.{AltSvc}
 use Rattle.altsvc_grammar.specs.declared.alt_svc.AltSvc.TheVariants as value
-use Rattle.altsvc_grammar.specs.Written.{encoded, optional_host_text, key_text, ma_text, persist_text, alt_text, more_alts_text, alts_text, value_text}
-use Rattle.altsvc_grammar.specs.ParameterReading.{ma_value, or_else}
-use Rattle.altsvc_grammar.specs.AuthorityGrammar.{SpellsPort, SpellsOptionalHost, SpellsAuthority}
-use Rattle.altsvc_grammar.specs.ParameterGrammar.{IsToken, ParameterValue, Token, Parameter, IsParameter, parameters_then, AreParameters, ma_of, persist_of}
-use Rattle.altsvc_grammar.specs.ValueGrammar.{Alternative, alternative_then, IsAlternative, alt_meant, Element, Clear, Offered, element_then, Slot, slot_then, IsSlot, slots_before, AreSlots, elements_of, is_clear, alternatives_of, key_in, firsts, meaning, most_value_bytes, SpellsValue}
+use Rattle.altsvc_grammar.specs.Written.{optional_host_text, ma_text, persist_text, alt_text, more_alts_text, alts_text, value_text}
+use Rattle.altsvc_grammar.specs.ParameterReading.{or_else}
+use Rattle.altsvc_grammar.specs.AuthorityGrammar.{SpellsPort, SpellsOptionalHost}
+use Rattle.altsvc_grammar.specs.ParameterGrammar.{IsToken, Token, Parameter, IsParameter, parameters_then, AreParameters, ma_of, persist_of}
+use Rattle.altsvc_grammar.specs.ValueGrammar.{Alternative, alternative_then, IsAlternative, alt_meant, Element, Clear, Offered, Slot, slot_then, IsSlot, slots_before, AreSlots, elements_of, is_clear, alternatives_of, firsts, meaning, most_value_bytes, SpellsValue}
 use Rattle.altsvc_grammar.specs.Valid.{IsOptionalHost, IsKey, IsAlt, AreAlts, AreDistinct, AreListed, IsAltSvc}
 use Rattle.altsvc_grammar.proofs.QuotedHosts.{host_quoted, decimal_quoted, decimal_digits}
 use Rattle.altsvc_grammar.proofs.Percents.{all_append}
@@ -255,8 +253,13 @@ list_spelled (alt ∷ alts) valid short =
 -- the text that a value is written as spells it
 pub written_spelled : (v : AltSvc) → IsAltSvc v → length (value_text v) ≤ most_value_bytes → SpellsValue (value_text v) v
 written_spelled value.Clear valid short = record {
-  before = []; last = record { front = []; element = Some Clear; back = [] };
-  are_slots = tt; is_slot = record { front = tt; element = tt; back = tt };
-  text = refl; short = short; some = λ e. cc; means = refl;
+  before = [];
+  last = record { front = []; element = Some Clear; back = [] };
+  are_slots = tt;
+  is_slot = record { front = tt; element = tt; back = tt };
+  text = refl;
+  short = short;
+  some = λ e. cc;
+  means = refl;
 }
 written_spelled (value.List alts) valid short = list_spelled alts valid short

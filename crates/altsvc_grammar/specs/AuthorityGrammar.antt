@@ -3,7 +3,6 @@ use Rattle.std.specs.Prelude.{◌≡◌, ℕ, ◌<◌, ◌≤◌, List, [], ◌�
 use Rattle.std.specs.Str.Parse.{IsNumeral, digits_value}
 use Rattle.origin_values.specs.HostGrammar.{SpellsHost}
 use Rattle.origin_values.specs.declared.host.Host.{Host}
-use Rattle.altsvc_grammar.specs.Written.{encoded}
 
 -- 1 to 255 bytes; its spelling is its encoded form
 pub record IsProtocol (proto : List ℕ) : Type 0 where

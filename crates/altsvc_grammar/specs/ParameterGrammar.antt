@@ -1,11 +1,11 @@
 -- The parameters of an alternative (RFC 7838 3.1) and what they mean.
-use Rattle.std.specs.Prelude.{◌≡◌, ◌≢◌, ◌⊎◌, ℕ, ◌+◌, Bool, true, false, List, [], ◌∷◌, ◌++◌, length, codes, Option, None, Some, if◌then◌else◌}
+use Rattle.std.specs.Prelude.{◌≡◌, ◌≢◌, ◌⊎◌, ℕ, ◌+◌, Bool, false, List, [], ◌∷◌, ◌++◌, length, codes, Option, None, Some, if◌then◌else◌}
 use Rattle.field_text.specs.declared.text_refusal.TextRefusal.{TextRefusal}
 use Rattle.field_text.specs.Runs.{AllIn, BeginsIn}
 use Rattle.field_text.specs.BlanksGrammar.{is_blank}
 use Rattle.field_text.specs.TokenGrammar.{is_token}
 use Rattle.field_text.specs.QuotedGrammar.{Part, parts_text, parts_bytes, AreParts, QuotedRefusedAt}
-use Rattle.altsvc_grammar.specs.ParameterReading.{is_named, is_one, ma_value, or_else}
+use Rattle.altsvc_grammar.specs.ParameterReading.{is_named, is_one, ma_value}
 use Rattle.altsvc_grammar.specs.Steps.{begins_with}
 
 -- a token, or a quoted string of these parts

@@ -1,5 +1,5 @@
 -- Reading the identifier of a protocol (RFC 7838 3, `protocol-id`), a token whose other bytes are percent-encoded.
-use Rattle.std.specs.Prelude.{ℕ, ◌+◌, ◌*◌, ◌-◌, Bool, true, false, ◌&&◌, ◌||◌, not, nat_eq, nat_lt, nat_le, List, [], ◌∷◌, length, Option, None, Some, Result, Ok, Err, if◌then◌else◌}
+use Rattle.std.specs.Prelude.{ℕ, ◌+◌, ◌*◌, ◌-◌, Bool, false, ◌&&◌, ◌||◌, not, nat_eq, nat_lt, nat_le, List, [], ◌∷◌, length, Option, None, Some, Result, Ok, if◌then◌else◌}
 use Rattle.alt_base.specs.declared.refusal.At.{At}
 use Rattle.percent_encoding.specs.Percent.{percent_decode}
 use Rattle.altsvc_grammar.specs.Steps.{refused}

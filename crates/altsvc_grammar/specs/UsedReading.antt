@@ -1,5 +1,5 @@
 -- Reading the value of an Alt-Used field (RFC 7838 5): a host, and maybe a colon and a port.
-use Rattle.std.specs.Prelude.{ℕ, ◌+◌, Bool, true, false, nat_eq, List, [], ◌∷◌, length, take, drop, Option, None, Some, option_map, Result, Ok, Err, if◌then◌else◌}
+use Rattle.std.specs.Prelude.{ℕ, ◌+◌, nat_eq, List, [], ◌∷◌, take, drop, Option, None, Some, option_map, Result, Ok, Err, if◌then◌else◌}
 use Rattle.alt_base.specs.declared.refusal.At.{At}
 use Rattle.origin_values.specs.HostReading.{read_host}
 use Rattle.origin_values.specs.OriginReading.{bracket_end, count_before, digits_before}

@@ -1,5 +1,5 @@
 -- What holds of the values of Alt-Svc.
-use Rattle.std.specs.Prelude.{◌≡◌, ◌≢◌, ℕ, ◌≤◌, false, List, [], ◌∷◌, ◌++◌, Option, None, Some}
+use Rattle.std.specs.Prelude.{◌≡◌, ◌≢◌, ◌≤◌, false, List, [], ◌∷◌, ◌++◌, Option, None, Some}
 use Rattle.field_text.specs.DeltaGrammar.{greatest_delta_seconds}
 use Rattle.origin_values.specs.Valid.{IsHost}
 use Rattle.origin_values.specs.declared.host.Host.{Host}

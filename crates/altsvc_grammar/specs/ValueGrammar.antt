@@ -1,16 +1,14 @@
 -- The value of an Alt-Svc field (RFC 7838 3), by how its text splits.
-use Rattle.std.specs.Prelude.{◌≡◌, ◌≢◌, ℕ, ◌≤◌, Bool, true, false, ◌||◌, List, [], ◌∷◌, ◌++◌, length, codes, Option, None, Some, if◌then◌else◌}
+use Rattle.std.specs.Prelude.{◌≡◌, ◌≢◌, ℕ, ◌≤◌, Bool, true, false, List, [], ◌∷◌, ◌++◌, length, codes, Option, None, Some, if◌then◌else◌}
 use Rattle.std.specs.List.{list_any}
 use Rattle.origin_values.specs.declared.host.Host.{Host}
-use Rattle.field_text.specs.Runs.{AllIn, BeginsIn}
+use Rattle.field_text.specs.Runs.{AllIn}
 use Rattle.field_text.specs.BlanksGrammar.{is_blank}
-use Rattle.field_text.specs.TokenGrammar.{is_token}
 use Rattle.field_text.specs.QuotedGrammar.{Part, parts_text, parts_bytes, AreParts}
 use Rattle.altsvc_grammar.specs.Keys.{key_eq}
 use Rattle.altsvc_grammar.specs.Written.{encoded}
-use Rattle.altsvc_grammar.specs.Steps.{begins_with}
 use Rattle.altsvc_grammar.specs.AuthorityGrammar.{IsProtocol, SpellsAuthority}
-use Rattle.altsvc_grammar.specs.ParameterGrammar.{Parameter, parameters_then, AreParameters, EndsParameters, ma_of, persist_of}
+use Rattle.altsvc_grammar.specs.ParameterGrammar.{Parameter, parameters_then, AreParameters, ma_of, persist_of}
 use Rattle.altsvc_grammar.specs.declared.alt_key.AltKey.{AltKey}
 use Rattle.altsvc_grammar.specs.declared.alt.Alt.{Alt}
 use Rattle.altsvc_grammar.specs.declared.alt_svc.AltSvc.{AltSvc}

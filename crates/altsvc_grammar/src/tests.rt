@@ -1,3 +1,5 @@
+ghost use Rattle.std.specs.Prelude.{◌<◌, ◌^◌, length};
+
 use crate::{AltRefusal, UsedRefusal, parse, parse_alt_used, show_text, write, write_alt_used};
 use alt_base::{Bytes, Duplicate, NoMemory, Refused};
 use std::alloc::Global;
@@ -143,7 +145,9 @@ fn written(rt: HostRuntime) {
     );
 }
 
-fn used(alloc: Global, input: &[u8], text: &[u8]) -> Result<bool, Refused<UsedRefusal>> {
+fn used(alloc: Global, input: &[u8], text: &[u8]) -> Result<bool, Refused<UsedRefusal>>
+    requires { length input.now < 2 ^ 32 }
+{
     let (host, port) = parse_alt_used(alloc, input)?;
     let written = write_alt_used(alloc, &host, port)?;
     Ok(written.as_slice() == text)

@@ -1,8 +1,9 @@
 ghost use Rattle.std.specs.Prelude.{◌≡◌, ◌≤◌, ◌<◌, ◌^◌, ◌+◌, length, IfOk, IfSome, nat_eq};
-ghost use Rattle.origin_values.specs.Gives.{Gives};
+ghost use Rattle.origin_values.specs.Gives.{Gives, IfRefused};
 ghost use Rattle.origin_values.specs.HostReading.{read_host};
 ghost use Rattle.origin_values.specs.OriginReading.{bracket_end, count_before, digits_before};
 ghost use Rattle.altsvc_grammar.specs.UsedReading.{read_used, used_host_end, used_at_end, used_digits, after_used_host};
+ghost use Rattle.altsvc_grammar.specs.UsedGrammar.{SpellsUsed, UsedRefusedAt};
 ghost use Rattle.altsvc_grammar.specs.Written.{used_text};
 ghost use Rattle.alt_base.specs.declared.refusal.Refused.TheVariants.{At as RefusedThere};
 
@@ -24,6 +25,15 @@ const DEFAULT_PORT: u16 = 443;
 pub fn parse_alt_used(alloc: Global, input: &[u8]) -> Result<(Host, u16), Refused<UsedRefusal>>
     requires { length input.now < 2 ^ 32 }
     ensures reading { Gives result (read_used input.now) }
+    ensures ok { IfOk result (λ used. SpellsUsed input.now used) }
+    ensures refused { IfRefused result (λ place reason. UsedRefusedAt input.now place reason) }
+{
+    read_used(alloc, input)
+}
+
+fn read_used(alloc: Global, input: &[u8]) -> Result<(Host, u16), Refused<UsedRefusal>>
+    requires { length input.now < 2 ^ 32 }
+    ensures { Gives result (read_used input.now) }
 {
     let end = match host_end(input) {
         Some(end) => end,

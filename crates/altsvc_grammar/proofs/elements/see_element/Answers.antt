@@ -1,8 +1,7 @@
-use Rattle.std.proofs.Common.{◌≡◌, ◌-◌, ◌+◌, ◌<◌, ◌∙◌, true, false, take, drop, length, refl, sym, arith}
+use Rattle.std.proofs.Common.{◌≡◌, ◌+◌, ◌<◌, false, drop, length, arith}
 use Rattle.std.proofs.lemmas.Result.{err_from_is_err_and}
 use Rattle.altsvc_grammar.specs.Steps.{begins_with}
 use Rattle.altsvc_grammar.specs.SeenElements.{seen_of}
-use Rattle.altsvc_grammar.specs.ValueReading.{element_seen, read_element}
 use Rattle.altsvc_grammar.proofs.ElementLemmas.{element_at, element_refused}
 use Rattle.altsvc_grammar.proofs.elements.see_element.Goals as goal
 
