@@ -1,0 +1,18 @@
+//! SVCB and HTTPS records (RFC 9460): their values, their wire form, and which of them a client can use.
+#![tactic(auto)]
+
+mod lists;
+mod param;
+mod refusal;
+mod svcb;
+mod usable;
+mod value_writer;
+mod writer;
+
+pub use lists::{Ids, Keys, Params, V4s, V6s};
+pub use param::{Param, param_key};
+pub use refusal::WireRefusal;
+pub use svcb::Svcb;
+pub use usable::{compatible, consistent, protocols};
+pub use value_writer::param_value;
+pub use writer::write;
