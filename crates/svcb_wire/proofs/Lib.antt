@@ -1,1 +1,4 @@
+pub mod Numbers
+pub mod Bytes
+pub mod Pairs
 pub mod Writing

@@ -22,10 +22,10 @@ pub params_octets-append : (params more : List Param) → params_octets (params 
 params_octets-append [] more = refl
 params_octets-append (param ∷ params) more = ap (λ xs. param_octets param ++ xs) (params_octets-append params more) ∙ sym (append_assoc (param_octets param) (params_octets params) (params_octets more))
 
-pub keys_more : (keys : List ℕ) (i key : ℕ) → i < length keys → key ≡ get_or keys i key → keys_octets (take (i + 1) keys) ≡ keys_octets (take i keys) ++ big_bytes 2 key
-keys_more keys i key h is =
-    ap keys_octets (take_more keys i key h) ∙ keys_octets-append (take i keys) (get_or keys i key ∷ []) ∙ ap (λ xs. keys_octets (take i keys) ++ xs) (append-nil (big_bytes 2 (get_or keys i key)))
-    ∙ ap (λ k. keys_octets (take i keys) ++ big_bytes 2 k) (sym is)
+pub keys_more : (keys : List ℕ) (i d : ℕ) (octets pair new : List ℕ) → i < length keys → octets ≡ keys_octets (take i keys) → pair ≡ big_bytes 2 (get_or keys i d) → new ≡ octets ++ pair → new ≡ keys_octets (take (i + 1) keys)
+keys_more keys i d octets pair new h so_far wrote one =
+    one ∙ ap (λ xs. octets ++ xs) wrote ∙ ap (λ xs. xs ++ big_bytes 2 (get_or keys i d)) so_far ∙ sym (keys_octets-append (take i keys) (get_or keys i d ∷ []))
+    ∙ ap keys_octets (sym (take_more keys i d h))
 
 pub ids_more : (ids : List (List ℕ)) (i : ℕ) (id octets pushed new : List ℕ) → i < length ids → id ≡ get_or ids i id → octets ≡ ids_octets (take i ids) → pushed ≡ octets ++ length id ∷ [] → new ≡ pushed ++ id
     → new ≡ ids_octets (take (i + 1) ids)
@@ -34,11 +34,11 @@ ids_more ids i id octets pushed new h is so_far one two =
     ∙ ap (λ xs. ids_octets (take i ids) ++ length id ∷ xs) (sym (append-nil id)) ∙ sym (ids_octets-append (take i ids) (id ∷ []))
     ∙ ap (λ l. ids_octets (take i ids ++ l ∷ [])) is ∙ ap ids_octets (sym (take_more ids i id h))
 
-pub addresses_more : (addresses : List (List ℕ)) (i : ℕ) (address octets new : List ℕ) → i < length addresses → address ≡ get_or addresses i address → octets ≡ addresses_octets (take i addresses) → new ≡ octets ++ address
+pub addresses_more : (addresses : List (List ℕ)) (i : ℕ) (d octets new : List ℕ) → i < length addresses → octets ≡ addresses_octets (take i addresses) → new ≡ octets ++ get_or addresses i d
     → new ≡ addresses_octets (take (i + 1) addresses)
-addresses_more addresses i address octets new h is so_far one =
-    one ∙ ap (λ xs. xs ++ address) so_far ∙ ap (λ xs. addresses_octets (take i addresses) ++ xs) (sym (append-nil address)) ∙ sym (addresses_octets-append (take i addresses) (address ∷ []))
-    ∙ ap (λ l. addresses_octets (take i addresses ++ l ∷ [])) is ∙ ap addresses_octets (sym (take_more addresses i address h))
+addresses_more addresses i d octets new h so_far one =
+    one ∙ ap (λ xs. xs ++ get_or addresses i d) so_far ∙ ap (λ xs. addresses_octets (take i addresses) ++ xs) (sym (append-nil (get_or addresses i d)))
+    ∙ sym (addresses_octets-append (take i addresses) (get_or addresses i d ∷ [])) ∙ ap addresses_octets (sym (take_more addresses i d h))
 
 pub params_more : (params : List Param) (i : ℕ) (param : Param) (octets one new : List ℕ) → i < length params → param ≡ get_or params i param → octets ≡ params_octets (take i params) → one ≡ param_octets param → new ≡ octets ++ one
     → new ≡ params_octets (take (i + 1) params)
