@@ -7,6 +7,7 @@ mod refusal;
 mod svcb;
 mod usable;
 mod value_writer;
+mod values;
 mod writer;
 
 pub use lists::{Ids, Keys, Params, V4s, V6s};
