@@ -6,3 +6,6 @@ pub mod Keys
 pub mod Items
 pub mod Readers
 pub mod ValueForms
+pub mod ParamSteps
+pub mod ParamLists
+pub mod RecordSays

@@ -33,10 +33,9 @@ pub record GoesOn (x : List ℕ) (params : List Param) (place : ℕ) (rest : Lis
   pub behind : place ≡ 2 + length target + length (params_octets params)
 
 -- the least key that may follow
-abbrev pub next_key : List Param → ℕ
-next_key [] = 0
-next_key (param ∷ []) = suc (key_of param)
-next_key (param ∷ second ∷ params) = next_key (second ∷ params)
+abbrev pub next_key : ℕ → List Param → ℕ
+next_key least [] = least
+next_key least (param ∷ params) = next_key (suc (key_of param)) params
 
 -- a key and a length in 16 bits each
 pub record IsHead (rest : List ℕ) (key size : ℕ) (tail : List ℕ) : Type 0 where
@@ -68,7 +67,7 @@ pub record IsKeyOrder (x : List ℕ) (q : ℕ) : Type 0 where
   pub size : ℕ
   pub tail : List ℕ
   pub head : IsHead rest key size tail
-  pub below : key < next_key params
+  pub below : key < next_key 0 params
 
 -- a length that passes the end
 pub record IsParamPast (x : List ℕ) (q : ℕ) : Type 0 where
@@ -79,7 +78,7 @@ pub record IsParamPast (x : List ℕ) (q : ℕ) : Type 0 where
   pub size : ℕ
   pub tail : List ℕ
   pub head : IsHead rest key size tail
-  pub above : next_key params ≤ key
+  pub above : next_key 0 params ≤ key
   pub past : length tail < size
 
 -- no parameter has this key and this value
@@ -95,7 +94,7 @@ pub record IsBadValue (x : List ℕ) (q key : ℕ) : Type 0 where
   pub value : List ℕ
   pub more : List ℕ
   pub head : IsHead rest key (length value) (value ++ more)
-  pub above : next_key params ≤ key
+  pub above : next_key 0 params ≤ key
   pub bad : IsNoForm key value
   pub first : q ≡ place + 4
 

@@ -25,13 +25,18 @@ abbrev pub by_value : Option Param → ℕ → ℕ → ℕ → ParamAnswer
 by_value None place key size = refused (place + 4) (BadValue key)
 by_value (Some param) place key size = Ok (param, 4 + size)
 
+-- the parameter of a key, a size and the octets behind them
+abbrev pub param_by_head : ℕ → ℕ → ℕ → ℕ → List ℕ → ParamAnswer
+param_by_head place least key size tail =
+    if nat_lt key least then refused place KeyOrder
+    else (if nat_lt (length tail) size then refused place ParamPast
+    else by_value (read_value key (take size tail)) place key size)
+
 -- the parameter at the front of the octets x, which begin at a place, with a least key
 abbrev pub first_param : ℕ → ℕ → List ℕ → ParamAnswer
 first_param place least x =
     if nat_lt (length x) 4 then refused (place + length x) Short
-    else (if nat_lt (big_number 2 x) least then refused place KeyOrder
-    else (if nat_lt (length x) (4 + big_number 2 (drop 2 x)) then refused place ParamPast
-    else by_value (read_value (big_number 2 x) (take (big_number 2 (drop 2 x)) (drop 4 x))) place (big_number 2 x) (big_number 2 (drop 2 x))))
+    else param_by_head place least (big_number 2 x) (big_number 2 (drop 2 x)) (drop 4 x)
 
 abbrev pub by_param : ParamAnswer → ℕ → List Param → List ℕ → (ℕ → ℕ → List Param → List ℕ → ParamsAnswer) → ParamsAnswer
 by_param (Err at) place params x next = Err at
@@ -52,13 +57,24 @@ abbrev pub with_params : ℕ → List (List ℕ) → ParamsAnswer → RecordAnsw
 with_params priority target (Ok params) = Ok (record { priority = priority; target = target; params = params })
 with_params priority target (Err at) = Err at
 
-abbrev pub behind_target : ℕ → List ℕ → WireAnswer → RecordAnswer
+-- the target and the place after it
+abbrev pub TargetAnswer : Type 0
+TargetAnswer = Result (List (List ℕ) × ℕ) (At WireRefusal)
+
+abbrev pub target_by : WireAnswer → TargetAnswer
+target_by (Ok answer) = Ok answer
+target_by (Err at) = refused at.place BadTarget
+
+abbrev pub read_target : List ℕ → TargetAnswer
+read_target x = target_by (read_wire 2 (drop 2 x))
+
+abbrev pub behind_target : ℕ → List ℕ → TargetAnswer → RecordAnswer
 behind_target priority x (Ok answer) = with_params priority answer.0 (read_params answer.1 (drop answer.1 x))
-behind_target priority x (Err at) = refused at.place BadTarget
+behind_target priority x (Err at) = Err at
 
 -- the record of which the octets x are the wire form
 abbrev pub read_record : List ℕ → RecordAnswer
 read_record x =
     if nat_lt 65535 (length x) then refused 65535 TooLong
     else (if nat_lt (length x) 2 then refused (length x) Short
-    else behind_target (big_number 2 x) x (read_wire 2 (drop 2 x)))
+    else behind_target (big_number 2 x) x (read_target x))

@@ -3,6 +3,7 @@
 
 mod lists;
 mod param;
+mod reader;
 mod refusal;
 mod svcb;
 mod usable;
@@ -12,6 +13,7 @@ mod writer;
 
 pub use lists::{Ids, Keys, Params, V4s, V6s};
 pub use param::{Param, param_key};
+pub use reader::parse;
 pub use refusal::WireRefusal;
 pub use svcb::Svcb;
 pub use usable::{compatible, consistent, protocols};
