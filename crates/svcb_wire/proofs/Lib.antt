@@ -9,3 +9,4 @@ pub mod ValueForms
 pub mod ParamSteps
 pub mod ParamLists
 pub mod RecordSays
+pub mod RecordSpelled

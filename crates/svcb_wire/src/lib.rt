@@ -1,6 +1,7 @@
 //! SVCB and HTTPS records (RFC 9460): their values, their wire form, and which of them a client can use.
 #![tactic(auto)]
 
+mod laws;
 mod lists;
 mod param;
 mod reader;
@@ -11,6 +12,7 @@ mod value_writer;
 mod values;
 mod writer;
 
+pub use laws::{one_record, record_means, record_reads_back, spelled_records};
 pub use lists::{Ids, Keys, Params, V4s, V6s};
 pub use param::{Param, param_key};
 pub use reader::parse;

@@ -1,6 +1,7 @@
 ghost use Rattle.std.specs.Prelude.{◌≡◌, ◌≤◌, ◌<◌, ◌^◌, length, IfOk, ◌++◌};
 ghost use Rattle.svcb_wire.specs.Octets.{param_octets, params_octets};
 ghost use Rattle.svcb_wire.specs.Forms.{IsParam, AreParams};
+ghost use Rattle.svcb_wire.specs.RecordReading.{read_record};
 ghost use Rattle.svcb_wire.specs.Records.{IsRecord, record_octets};
 
 use crate::value_writer::pair_of;
@@ -33,10 +34,11 @@ fn write_params(alloc: Global, params: &[Param]) -> Result<Vec<u8>, NoMemory>
 
 /// The wire form of a record (RFC 9460 2.2): the priority, the target without compression, and the parameters, each a
 /// key, a length and a value. The record's parameters stand in strictly increasing keys, each with a value of its key's
-/// form.
+/// form. Where the octets are at most 65,535, [`parse`](crate::parse) gives the record back.
 pub fn write(alloc: Global, value: &Svcb) -> Result<Bytes, NoMemory>
     requires { IsRecord value.now }
-    ensures { IfOk result (λ octets. octets ≡ record_octets value.now) }
+    ensures written { IfOk result (λ octets. octets ≡ record_octets value.now) }
+    ensures read_back { IfOk result (λ octets. length octets ≤ 65535 → read_record octets ≡ Ok value.now) }
 {
     let target = value.target.to_wire(alloc)?;
     let params = write_params(alloc, value.params.as_slice())?;
