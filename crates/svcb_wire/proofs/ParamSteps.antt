@@ -118,7 +118,7 @@ found_says (Some param) place least key size x bytes h above whole is =
       above = omega (arith, o.key_is, above);
       param_is = record { form = o.form; sized = omega (arith, same, h.size_fits) };
       octets = h.split ∙ ap (λ xs. big_bytes 2 key ++ (big_bytes 2 size ++ xs)) (sym (take-append-drop size (drop 4 x))) ∙ param_is param key size (take size (drop 4 x)) (drop size (drop 4 x)) o.key_is count o.value_is
-        ∙ ap (λ xs. param_octets param ++ xs) (drop-drop size 4 x);
+          ∙ ap (λ xs. param_octets param ++ xs) (drop-drop size 4 x);
       sized = omega (arith, same);
     }
 

@@ -54,9 +54,10 @@ id_sound [] item size items bytes e more are = cc
 id_sound (n ∷ rest) item size items bytes e more are =
     let f = id_found n rest item size e in
     let count : length item ≡ n = ap length f.item_is ∙ length-take-le n rest f.whole in
-    let behind : ids_octets items ≡ drop n rest = more ∙ ap (λ k. drop k (n ∷ rest)) f.size_is in
-    ((record { some = omega (arith, f.some, count); most = omega (arith, bytes.0, count); bytes = rw f.item_is (bytes_take n rest bytes.1) }, are),
-     id_octets n rest item (ids_octets items) f.whole f.item_is behind)
+    let behind : ids_octets items ≡ drop n rest = more ∙ ap (λ k. drop k (n ∷ rest)) f.size_is in (
+      (record { some = omega (arith, f.some, count); most = omega (arith, bytes.0, count); bytes = rw f.item_is (bytes_take n rest bytes.1) }, are),
+      id_octets n rest item (ids_octets items) f.whole f.item_is behind,
+    )
 
 id_reads : (id more : List ℕ) → IsId id → first_id (length id ∷ (id ++ more)) ≡ Some (id, suc (length id))
 id_reads id more h =
@@ -90,18 +91,21 @@ address_sound : (count : ℕ) (x item : List ℕ) (size : ℕ) (items : Items) �
     → AreAddresses count (item ∷ items) × (addresses_octets (item ∷ items) ≡ x)
 address_sound count x item size items bytes e more are =
     let f = address_found count x item size e in
-    let behind : addresses_octets items ≡ drop count x = more ∙ ap (λ k. drop k x) f.size_is in
-    ((record { sized = ap length f.item_is ∙ length-take-le count x f.whole; bytes = rw f.item_is (bytes_take count x bytes) }, are),
-     ap (λ xs. xs ++ addresses_octets items) f.item_is ∙ ap (λ xs. take count x ++ xs) behind ∙ take-append-drop count x)
+    let behind : addresses_octets items ≡ drop count x = more ∙ ap (λ k. drop k x) f.size_is in (
+      (record { sized = ap length f.item_is ∙ length-take-le count x f.whole; bytes = rw f.item_is (bytes_take count x bytes) }, are),
+      ap (λ xs. xs ++ addresses_octets items) f.item_is ∙ ap (λ xs. take count x ++ xs) behind ∙ take-append-drop count x,
+    )
 
 address_complete : (count : ℕ) (address : List ℕ) (addresses : Items) → 1 ≤ count → AreAddresses count (address ∷ addresses)
     → (n : ℕ) × AreAddresses count addresses × (first_address count (addresses_octets (address ∷ addresses)) ≡ Some (address, n)) × (drop n (addresses_octets (address ∷ addresses)) ≡ addresses_octets addresses) × (1 ≤ length (addresses_octets (address ∷ addresses)))
 address_complete count address addresses some are =
-    let size : length (address ++ addresses_octets addresses) ≡ length address + length (addresses_octets addresses) = length-append address (addresses_octets addresses) in
-    (count, are.1,
-     address_whole count (address ++ addresses_octets addresses) (omega (arith, size, are.0.sized)) ∙ some_is _ _ _ _ (take_at address (addresses_octets addresses) count are.0.sized) refl,
-     drop_at address (addresses_octets addresses) count are.0.sized,
-     omega (arith, size, are.0.sized, some))
+    let size : length (address ++ addresses_octets addresses) ≡ length address + length (addresses_octets addresses) = length-append address (addresses_octets addresses) in (
+      count,
+      are.1,
+      address_whole count (address ++ addresses_octets addresses) (omega (arith, size, are.0.sized)) ∙ some_is _ _ _ _ (take_at address (addresses_octets addresses) count are.0.sized) refl,
+      drop_at address (addresses_octets addresses) count are.0.sized,
+      omega (arith, size, are.0.sized, some),
+    )
 
 pub address_takes : (count : ℕ) → 1 ≤ count → Takes (first_address count)
 address_takes count some = λ x item n e. let f = address_found count x item n e in omega (arith, f.size_is, some)

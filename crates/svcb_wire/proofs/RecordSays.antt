@@ -62,16 +62,37 @@ stop_says Short x rest name place q h s = record {
 }
 stop_says BadTarget x rest name place q h s = absurd s.stops
 stop_says KeyOrder x rest name place q h s = record {
-  params = s.done; rest = s.rest; goes = goes_on x rest s.rest name place q s.done h s.split s.are s.stops.0;
-  key = s.stops.1; size = s.stops.2; tail = s.stops.3; head = s.stops.4; below = s.stops.5;
+  params = s.done;
+  rest = s.rest;
+  goes = goes_on x rest s.rest name place q s.done h s.split s.are s.stops.0;
+  key = s.stops.1;
+  size = s.stops.2;
+  tail = s.stops.3;
+  head = s.stops.4;
+  below = s.stops.5;
 }
 stop_says ParamPast x rest name place q h s = record {
-  params = s.done; rest = s.rest; goes = goes_on x rest s.rest name place q s.done h s.split s.are s.stops.0;
-  key = s.stops.1; size = s.stops.2; tail = s.stops.3; head = s.stops.4; above = s.stops.5; past = s.stops.6;
+  params = s.done;
+  rest = s.rest;
+  goes = goes_on x rest s.rest name place q s.done h s.split s.are s.stops.0;
+  key = s.stops.1;
+  size = s.stops.2;
+  tail = s.stops.3;
+  head = s.stops.4;
+  above = s.stops.5;
+  past = s.stops.6;
 }
 stop_says (BadValue key) x rest name place q h s = record {
-  params = s.done; place = place + length (params_octets s.done); rest = s.rest; goes = goes_on x rest s.rest name place _ s.done h s.split s.are refl;
-  value = s.stops.1; more = s.stops.2; head = s.stops.3; above = s.stops.4; bad = s.stops.5; first = s.stops.0;
+  params = s.done;
+  place = place + length (params_octets s.done);
+  rest = s.rest;
+  goes = goes_on x rest s.rest name place _ s.done h s.split s.are refl;
+  value = s.stops.1;
+  more = s.stops.2;
+  head = s.stops.3;
+  above = s.stops.4;
+  bad = s.stops.5;
+  first = s.stops.0;
 }
 stop_says TooLong x rest name place q h s = absurd s.stops
 

@@ -38,7 +38,7 @@ headed_reads x priority target rest name split two named most =
     let behind : drop 2 x ≡ target ++ rest = ap (drop 2) split ∙ drop_at priority (target ++ rest) 2 two in
     let after : drop (2 + length target) x ≡ rest = sym (drop-drop (length target) 2 x) ∙ ap (drop (length target)) behind ∙ drop_at target rest (length target) refl in
     let found : read_wire 2 (drop 2 x) ≡ Ok (name, 2 + length target) =
-      name_reads 2 (2 + length target) (drop 2 x) name (record { front = target; spelled = record { rest = rest; split = behind; spelled = named }; end = refl }) in
+    name_reads 2 (2 + length target) (drop 2 x) name (record { front = target; spelled = record { rest = rest; split = behind; spelled = named }; end = refl }) in
     sized_reads x most (omega (arith, ap length split, length-append priority (target ++ rest), two))
     ∙ ap (λ r. behind_target (big_number 2 x) x (target_by r)) found
     ∙ ap (λ xs. with_params (big_number 2 x) name (read_params (2 + length target) xs)) after

@@ -7,6 +7,8 @@ mod param;
 mod reader;
 mod refusal;
 mod svcb;
+#[cfg(test)]
+mod tests;
 mod usable;
 mod value_writer;
 mod values;
