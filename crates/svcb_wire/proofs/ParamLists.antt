@@ -1,14 +1,12 @@
 -- The parameters from a place on: what is read, against the grammar.
-use Rattle.std.proofs.Common.{◌≡◌, ℕ, zero, suc, ◌+◌, ◌<◌, ◌≤◌, List, [], ◌∷◌, ◌++◌, length, drop, Ok, Err, refl, ap, sym, ◌∙◌, subst, arith}
+use Rattle.std.proofs.Common.{◌≡◌, ℕ, zero, suc, ◌+◌, ◌≤◌, List, [], ◌∷◌, ◌++◌, length, drop, Ok, Err, refl, ap, sym, ◌∙◌, subst, arith}
 use Rattle.std.proofs.lemmas.List.{append_assoc, append-nil, length-append, length-drop, drop_at}
 use Rattle.alt_base.specs.declared.refusal.At.{At}
 use Rattle.dns_names.specs.Names.{AreBytes}
 use Rattle.svcb_wire.specs.declared.param.Param.{Param}
 use Rattle.svcb_wire.specs.declared.refusal.WireRefusal.{WireRefusal}
-use Rattle.svcb_wire.specs.declared.refusal.WireRefusal.TheVariants.{Short}
-use Rattle.svcb_wire.specs.Answers.{refused}
 use Rattle.svcb_wire.specs.Octets.{key_of, param_octets, params_octets}
-use Rattle.svcb_wire.specs.Forms.{IsParam, AreParams}
+use Rattle.svcb_wire.specs.Forms.{AreParams}
 use Rattle.svcb_wire.specs.RecordReading.{ParamAnswer, ParamsAnswer, first_param, by_param, params_behind, read_params}
 use Rattle.svcb_wire.specs.RecordGrammar.{next_key}
 use Rattle.svcb_wire.proofs.Bytes.{bytes_drop}

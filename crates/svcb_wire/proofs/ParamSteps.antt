@@ -1,5 +1,5 @@
 -- One parameter at the front of some octets: what is read, against the grammar.
-use Rattle.std.proofs.Common.{◌≡◌, ℕ, zero, suc, ◌+◌, ◌<◌, ◌≤◌, Bool, true, false, cond, nat_lt, List, [], ◌∷◌, ◌++◌, length, take, drop, Option, Some, None, Ok, Err, refl, ap, sym, ◌∙◌, subst, arith}
+use Rattle.std.proofs.Common.{◌≡◌, ℕ, ◌+◌, ◌<◌, ◌≤◌, Bool, true, false, cond, nat_lt, List, [], ◌∷◌, ◌++◌, length, take, drop, Option, Some, None, Ok, Err, refl, ap, sym, ◌∙◌, subst, arith}
 use Rattle.std.proofs.lemmas.List.{length-append, length-drop, length-take-le, take-append-drop, take_at, drop-drop}
 use Rattle.byteorder.specs.Endian.{big_number, big_bytes}
 use Rattle.dns_names.specs.Names.{AreBytes}
@@ -16,7 +16,7 @@ use Rattle.svcb_wire.specs.RecordGrammar.{IsHead, IsNoForm}
 use Rattle.svcb_wire.proofs.Numbers.{lt_true, lt_false, true_lt, false_lt}
 use Rattle.svcb_wire.proofs.Bytes.{bytes_take, bytes_drop}
 use Rattle.svcb_wire.proofs.Pairs.{pair_reads, pair_split, pair_below}
-use Rattle.svcb_wire.proofs.ValueForms.{IsOf, value_says, value_reads, value_none, none_reads}
+use Rattle.svcb_wire.proofs.ValueForms.{value_says, value_reads, value_none, none_reads}
 
 -- a parameter with a least key is at the front of the octets
 pub record IsFirstParam (least : ℕ) (x : List ℕ) (param : Param) (size : ℕ) : Type 0 where

@@ -1,10 +1,10 @@
 -- The readers of a first id and of a first address.
-use Rattle.std.proofs.Common.{◌≡◌, ◌≢◌, ℕ, zero, suc, ◌+◌, ◌<◌, ◌≤◌, Bool, true, false, ◌||◌, cond, nat_eq, nat_lt, List, [], ◌∷◌, ◌++◌, length, take, drop, Option, Some, None, refl, ap, sym, ◌∙◌, arith}
+use Rattle.std.proofs.Common.{◌≡◌, ◌≢◌, ℕ, suc, ◌+◌, ◌<◌, ◌≤◌, Bool, true, false, ◌||◌, cond, nat_eq, nat_lt, List, [], ◌∷◌, ◌++◌, length, take, drop, Option, Some, None, refl, ap, sym, ◌∙◌, arith}
 use Rattle.std.proofs.lemmas.List.{length-append, length-take-le, take-append-drop, take_at, drop_at}
 use Rattle.dns_names.specs.Names.{AreBytes}
 use Rattle.svcb_wire.specs.Octets.{ids_octets, addresses_octets}
-use Rattle.svcb_wire.specs.Forms.{IsId, AreIds, IsAddress, AreAddresses}
-use Rattle.svcb_wire.specs.ValueReading.{First, first_id, first_address}
+use Rattle.svcb_wire.specs.Forms.{IsId, AreIds, AreAddresses}
+use Rattle.svcb_wire.specs.ValueReading.{first_id, first_address}
 use Rattle.svcb_wire.proofs.Numbers.{eq_false, false_eq, lt_true, lt_false, false_lt}
 use Rattle.svcb_wire.proofs.Bytes.{bytes_take}
 use Rattle.svcb_wire.proofs.Items.{Items, Takes, IsReader}

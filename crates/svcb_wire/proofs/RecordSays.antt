@@ -1,13 +1,11 @@
 -- The reading of a record against its grammar.
-use Rattle.std.proofs.Common.{◌≡◌, ◌⊎◌, ℕ, zero, suc, ◌+◌, ◌<◌, ◌≤◌, Bool, true, false, cond, nat_lt, List, [], ◌∷◌, ◌++◌, length, take, drop, Result, Ok, Err, IfOk, refl, ap, sym, ◌∙◌, subst, arith, inl, inr}
-use Rattle.std.proofs.lemmas.List.{append_assoc, append-nil, length-append, length-drop, length-take-le, take-append-drop, drop_at, drop-drop}
+use Rattle.std.proofs.Common.{◌≡◌, ℕ, ◌+◌, ◌<◌, ◌≤◌, Bool, true, false, cond, nat_lt, List, [], ◌++◌, length, take, drop, Result, Ok, Err, IfOk, refl, ap, sym, ◌∙◌, subst, arith, inl, inr}
+use Rattle.std.proofs.lemmas.List.{length-append, length-take-le, take-append-drop, drop_at, drop-drop}
 use Rattle.byteorder.specs.Endian.{big_number, big_bytes}
-use Rattle.alt_base.specs.declared.refusal.At.{At}
 use Rattle.alt_base.specs.declared.refusal.Refused.{Refused}
 use Rattle.alt_base.specs.declared.refusal.Refused.TheVariants.{NoMemory, At as RefusedThere}
-use Rattle.dns_names.specs.declared.refusal.NameRefusal.{NameRefusal}
-use Rattle.dns_names.specs.Names.{AreBytes, wire_form}
-use Rattle.dns_names.specs.WireGrammar.{SpellsWire, SpellsUpTo, WireRefusedAt}
+use Rattle.dns_names.specs.Names.{AreBytes}
+use Rattle.dns_names.specs.WireGrammar.{SpellsWire, SpellsUpTo}
 use Rattle.dns_names.specs.WireReading.{WireAnswer, read_wire}
 use Rattle.dns_names.proofs.WireNames.{read_says as name_says, refusal_says as name_refused, spelled_name}
 use Rattle.svcb_wire.specs.declared.param.Param.{Param}
@@ -15,16 +13,15 @@ use Rattle.svcb_wire.specs.declared.svcb.Svcb.{Svcb}
 use Rattle.svcb_wire.specs.declared.refusal.WireRefusal.{WireRefusal}
 use Rattle.svcb_wire.specs.declared.refusal.WireRefusal.TheVariants.{Short, BadTarget, KeyOrder, ParamPast, BadValue, TooLong}
 use Rattle.svcb_wire.specs.Answers.{refused, Answers, IfRefused}
-use Rattle.svcb_wire.specs.Octets.{key_of, params_octets}
+use Rattle.svcb_wire.specs.Octets.{params_octets}
 use Rattle.svcb_wire.specs.Forms.{AreParams}
 use Rattle.svcb_wire.specs.Records.{IsRecord}
 use Rattle.svcb_wire.specs.RecordReading.{ParamsAnswer, RecordAnswer, read_params, with_params, target_by, behind_target, read_target, read_record}
-use Rattle.svcb_wire.specs.RecordGrammar.{SpellsRecord, GoesOn, IsShort, IsBadTarget, IsKeyOrder, IsParamPast, IsBadValue, IsTooLong, RecordRefusedAt}
+use Rattle.svcb_wire.specs.RecordGrammar.{SpellsRecord, GoesOn, RecordRefusedAt}
 use Rattle.svcb_wire.proofs.Numbers.{true_lt, false_lt}
 use Rattle.svcb_wire.proofs.Bytes.{bytes_drop, bytes_front, bytes_back}
 use Rattle.svcb_wire.proofs.Pairs.{pair_split, pair_below}
-use Rattle.svcb_wire.proofs.ParamSteps.{ParamStops}
-use Rattle.svcb_wire.proofs.ParamLists.{ParamsBehind, ParamsStop, ParamsSays, params_say}
+use Rattle.svcb_wire.proofs.ParamLists.{ParamsStop, ParamsSays, params_say}
 
 abbrev pub Says : List ℕ → RecordAnswer → Type 0
 Says x (Ok value) = SpellsRecord x value

@@ -1,11 +1,11 @@
 -- What the grammar of a record's wire form says is what is read.
-use Rattle.std.proofs.Common.{◌≡◌, ◌⊎◌, ℕ, suc, ◌+◌, ◌<◌, ◌≤◌, true, false, nat_lt, List, [], ◌∷◌, ◌++◌, length, drop, Ok, Err, refl, ap, sym, ◌∙◌, subst, arith, inl, inr}
+use Rattle.std.proofs.Common.{◌≡◌, ◌⊎◌, ℕ, ◌+◌, ◌<◌, ◌≤◌, true, false, nat_lt, List, [], ◌++◌, length, drop, Ok, Err, refl, ap, sym, ◌∙◌, subst, arith, inl, inr}
 use Rattle.std.proofs.lemmas.List.{append-nil, length-append, drop_at, drop-drop}
 use Rattle.byteorder.specs.Endian.{big_number, big_bytes}
 use Rattle.alt_base.specs.declared.refusal.At.{At}
-use Rattle.dns_names.specs.Names.{AreBytes, IsName, wire_form}
+use Rattle.dns_names.specs.Names.{AreBytes, wire_form}
 use Rattle.dns_names.specs.WireGrammar.{SpellsWire}
-use Rattle.dns_names.specs.WireReading.{WireAnswer, read_wire}
+use Rattle.dns_names.specs.WireReading.{read_wire}
 use Rattle.dns_names.proofs.WireNames.{name_spelled}
 use Rattle.dns_names.proofs.WireSpelled.{spelled_reads as name_reads, refused_reads as name_refused}
 use Rattle.svcb_wire.specs.declared.param.Param.{Param}
@@ -14,10 +14,9 @@ use Rattle.svcb_wire.specs.declared.refusal.WireRefusal.{WireRefusal}
 use Rattle.svcb_wire.specs.declared.refusal.WireRefusal.TheVariants.{Short, BadTarget, KeyOrder, ParamPast, BadValue, TooLong}
 use Rattle.svcb_wire.specs.Answers.{refused}
 use Rattle.svcb_wire.specs.Octets.{params_octets}
-use Rattle.svcb_wire.specs.Forms.{AreParams}
 use Rattle.svcb_wire.specs.Records.{IsRecord, record_octets}
 use Rattle.svcb_wire.specs.RecordReading.{ParamsAnswer, RecordAnswer, first_param, read_params, with_params, target_by, behind_target, read_target, read_record}
-use Rattle.svcb_wire.specs.RecordGrammar.{SpellsRecord, GoesOn, next_key, IsHead, IsShort, IsBadTarget, IsKeyOrder, IsParamPast, IsBadValue, IsTooLong, RecordRefusedAt, OneRecord}
+use Rattle.svcb_wire.specs.RecordGrammar.{SpellsRecord, GoesOn, next_key, IsHead, RecordRefusedAt, OneRecord}
 use Rattle.svcb_wire.proofs.Numbers.{lt_true, lt_false}
 use Rattle.svcb_wire.proofs.Bytes.{bytes_front, bytes_back}
 use Rattle.svcb_wire.proofs.Pairs.{pair_reads}

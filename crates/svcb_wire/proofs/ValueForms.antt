@@ -1,18 +1,17 @@
 -- The reading of a value by its key against the key's form.
-use Rattle.std.proofs.Common.{◌≡◌, ◌≢◌, ◌⊎◌, ℕ, zero, suc, ◌+◌, ◌<◌, ◌≤◌, Bool, true, false, cond, nat_eq, nat_lt, List, [], ◌∷◌, ◌++◌, length, Option, Some, None, refl, ap, sym, ◌∙◌, subst, arith, inl, inr}
+use Rattle.std.proofs.Common.{◌≡◌, ◌≢◌, ◌⊎◌, ℕ, ◌<◌, ◌≤◌, Bool, true, false, cond, nat_eq, List, [], ◌∷◌, length, Option, Some, None, refl, ap, sym, ◌∙◌, subst, arith, inl, inr}
 use Rattle.std.specs.Option.{option_map}
-use Rattle.std.proofs.lemmas.List.{append-nil, length-append}
 use Rattle.byteorder.specs.Endian.{big_number, big_bytes}
 use Rattle.dns_names.specs.Names.{AreBytes}
 use Rattle.svcb_wire.specs.declared.param.Param.{Param}
 use Rattle.svcb_wire.specs.declared.param.Param.TheVariants.{Mandatory, Alpn, NoDefaultAlpn, Port, V4Hint, Other, V6Hint}
 use Rattle.svcb_wire.specs.Octets.{keys_octets, ids_octets, addresses_octets, key_of, value_of}
-use Rattle.svcb_wire.specs.Forms.{AreRising, AreIds, IsAddress, AreAddresses, HasForm}
-use Rattle.svcb_wire.specs.ValueReading.{First, keys_behind, items_behind, first_id, first_address, where_some, read_keys, read_items, read_nothing, read_port, read_value}
-use Rattle.svcb_wire.proofs.Numbers.{eq_true, eq_false, true_eq, false_eq}
+use Rattle.svcb_wire.specs.Forms.{AreRising, AreIds, AreAddresses, HasForm}
+use Rattle.svcb_wire.specs.ValueReading.{First, first_id, first_address, where_some, read_keys, read_items, read_nothing, read_port, read_value}
+use Rattle.svcb_wire.proofs.Numbers.{eq_false, true_eq, false_eq}
 use Rattle.svcb_wire.proofs.Pairs.{pair_reads, pair_below, pair_whole}
-use Rattle.svcb_wire.proofs.Keys.{KeysBehind, keys_says, keys_reads}
-use Rattle.svcb_wire.proofs.Items.{Items, IsReader, ItemsBehind, items_says, items_reads}
+use Rattle.svcb_wire.proofs.Keys.{keys_says, keys_reads}
+use Rattle.svcb_wire.proofs.Items.{Items, IsReader, items_says, items_reads}
 use Rattle.svcb_wire.proofs.Readers.{id_reader, address_reader}
 
 -- the parameter is the one of this key and this value

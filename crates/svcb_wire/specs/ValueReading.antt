@@ -1,5 +1,5 @@
 -- Reading a parameter's value by its key (RFC 9460 7 and 8); None where the value isn't of the key's form.
-use Rattle.std.specs.Prelude.{ℕ, zero, suc, ◌||◌, Bool, nat_eq, nat_lt, if◌then◌else◌, List, [], ◌∷◌, ◌++◌, length, take, drop, Option, Some, None}
+use Rattle.std.specs.Prelude.{ℕ, zero, suc, ◌||◌, nat_eq, nat_lt, if◌then◌else◌, List, [], ◌∷◌, ◌++◌, length, take, drop, Option, Some, None}
 use Rattle.std.specs.Option.{option_map}
 use Rattle.byteorder.specs.Endian.{big_number}
 use Rattle.svcb_wire.specs.declared.param.Param.{Param}

@@ -1,4 +1,4 @@
-use Rattle.std.proofs.Common.{◌∙◌, ap, suc, ◌+◌, sym, rules, add-one, arith}
+use Rattle.std.proofs.Common.{arith}
 use Rattle.std.proofs.lemmas.List.{take_rest}
 use Rattle.svcb_wire.proofs.ParamLists.{param_on, place_on}
 use Rattle.svcb_wire.proofs.reader.read_params.Goals as goal

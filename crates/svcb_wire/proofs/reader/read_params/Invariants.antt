@@ -1,4 +1,4 @@
-use Rattle.std.proofs.Common.{◌≡◌, ◌≤◌, ◌+◌, length}
+use Rattle.std.proofs.Common.{◌≡◌, ◌+◌, length}
 use Rattle.svcb_wire.specs.RecordReading.{read_params}
 use Rattle.svcb_wire.proofs.ParamLists.{reads}
 use Rattle.svcb_wire.proofs.reader.read_params.Given as goal

@@ -1,4 +1,4 @@
-use Rattle.std.proofs.Common.{◌∙◌, sym, arith}
+use Rattle.std.proofs.Common.{◌∙◌, sym}
 use Rattle.std.proofs.lemmas.List.{take_rest}
 use Rattle.svcb_wire.specs.ValueReading.{first_id}
 use Rattle.svcb_wire.proofs.Items.{item_on}

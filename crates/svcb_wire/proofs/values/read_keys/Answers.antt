@@ -1,4 +1,3 @@
-use Rattle.std.proofs.Common.{arith}
 use Rattle.std.proofs.lemmas.List.{take_rest}
 use Rattle.svcb_wire.proofs.Keys.{key_on}
 use Rattle.svcb_wire.proofs.values.read_keys.Goals as goal

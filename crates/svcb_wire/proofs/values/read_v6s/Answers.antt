@@ -1,4 +1,4 @@
-use Rattle.std.proofs.Common.{◌∙◌, ap, length, ◌∷◌, [], ◌++◌, sym, rules, arith}
+use Rattle.std.proofs.Common.{◌∙◌, ap, ◌∷◌, [], ◌++◌, rules, arith}
 use Rattle.std.proofs.lemmas.List.{take_rest}
 use Rattle.svcb_wire.specs.ValueReading.{first_address}
 use Rattle.svcb_wire.proofs.Items.{item_on, item_none}
