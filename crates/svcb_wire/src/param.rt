@@ -7,7 +7,7 @@ use std::alloc::Global;
 
 /// A parameter of a record (RFC 9460 7 and 8), in the order of the keys 0 to 6; a key without a form of its own is 5 or
 /// above 6.
-#[derive(Debug, PartialEq, Eq, Drop)]
+#[derive(Debug, PartialEq, Eq, Hash, Drop)]
 pub enum Param {
     /// The keys that a client must know, in strictly increasing order, at least one, and without key 0.
     Mandatory(Keys),

@@ -75,6 +75,18 @@ fn a_record_with_each_key(rt: HostRuntime) -> Result<(), Fail> {
 }
 
 #[test]
+fn a_record_of_three_parameters(rt: HostRuntime) -> Result<(), Fail> {
+    let octets =
+        b"\x00\x10\x03Foo\x07example\x03org\x00\x00\x00\x00\x04\x00\x01\x00\x04\x00\x01\x00\x09\x02h2\x05h3-19\x00\x04\x00\x04\xc0\x00\x02\x01";
+    let value = parse(rt.alloc(), octets)?;
+    let target = value.target.to_text(rt.alloc())?;
+    assert_eq!(rt; value.priority, 16);
+    assert_eq!(rt; target.as_slice(), b"foo.example.org.".as_slice());
+    assert_eq!(rt; value.params.len(), 3);
+    Ok(())
+}
+
+#[test]
 fn a_key_and_a_value(rt: HostRuntime) -> Result<(), Fail> {
     let port = Param::Port(443);
     assert_eq!(rt; param_key(&port), 3);
