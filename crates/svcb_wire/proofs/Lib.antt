@@ -1,0 +1,12 @@
+pub mod Numbers
+pub mod Bytes
+pub mod Pairs
+pub mod Writing
+pub mod Keys
+pub mod Items
+pub mod Readers
+pub mod ValueForms
+pub mod ParamSteps
+pub mod ParamLists
+pub mod RecordSays
+pub mod RecordSpelled

@@ -1,0 +1,8 @@
+pub mod Octets
+pub mod Forms
+pub mod Records
+pub mod Answers
+pub mod ValueReading
+pub mod RecordReading
+pub mod RecordGrammar
+pub mod Usable
