@@ -18,11 +18,7 @@ pub(crate) fn trimmed(input: &[u8]) -> &[u8]
 }
 
 /// The line of a decoder's refusal.
-pub(crate) fn write_refused_at(
-    alloc: Global,
-    number: u32,
-    place: u32,
-) -> Result<Bytes, NoMemory>
+pub(crate) fn write_refused_at(alloc: Global, number: u32, place: u32) -> Result<Bytes, NoMemory>
     ensures { IfOk result (λ text. text ≡ refused_at number place) }
 {
     let mut text = Vec::new(alloc);

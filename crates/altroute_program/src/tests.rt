@@ -41,6 +41,54 @@ fn replayed(
     })
 }
 
+fn shown(
+    alloc: Global,
+    input: Bytes,
+    failing_reads: &[u32],
+    failing_writes: &[u32],
+) -> Result<Gave, Fail> {
+    let mut source = MemorySource::new(input, calls(alloc, failing_reads)?);
+    let mut sink = MemorySink::new(alloc, 100_000, calls(alloc, failing_writes)?)?;
+    let status = run(
+        alloc,
+        &words(alloc, &[b"show", b"altsvc"])?,
+        &mut source,
+        &mut sink,
+    );
+    Ok(Gave {
+        status: status.number(),
+        written: Vec::from_slice(alloc, sink.bytes())?,
+    })
+}
+
+#[test]
+fn field_values(rt: HostRuntime) -> Result<(), Fail> {
+    let alloc = rt.alloc();
+    let rows: [(&[u8], &[u8], u8); 6] = [
+        (b"clear\n", b"clear\n", 0),
+        (b"h2=\":443\"", b"h2 - 443 ma 86400 persist 0\n", 0),
+        (b"h2=\":443\", clear", b"clear\n", 0),
+        (b"", b"refused 1 at 0\n", 1),
+        (b"h%32=\":443\"\n", b"refused 3 at 1\n", 1),
+        // Only one newline is dropped.
+        (b"clear\n\n", b"refused 8 at 5\n", 1),
+    ];
+    for (input, written, status) in rows {
+        let gave = shown(alloc, bytes_of(alloc, input)?, &[], &[])?;
+        assert_eq!(rt; gave.written.as_slice(), written);
+        assert_eq!(rt; gave.status, status);
+    }
+    assert_eq!(rt;
+        shown(alloc, bytes_of(alloc, b"clear")?, &[1], &[])?.status,
+        3
+    );
+    assert_eq!(rt;
+        shown(alloc, bytes_of(alloc, b"clear")?, &[], &[1])?.status,
+        4
+    );
+    Ok(())
+}
+
 #[test]
 fn histories(rt: HostRuntime) -> Result<(), Fail> {
     let alloc = rt.alloc();
