@@ -1,0 +1,3 @@
+pub mod AsciiOrigins
+pub mod OriginLengths
+pub mod Frames

@@ -1,0 +1,4 @@
+pub mod Origins
+pub mod FrameGrammar
+pub mod FrameReading
+pub mod FrameWritten
