@@ -1,3 +1,4 @@
 pub mod AsciiOrigins
 pub mod OriginLengths
 pub mod Frames
+pub mod WrittenFrames

@@ -26,3 +26,12 @@ pub fn payloads_are_read()
 pub fn one_alt_frame()
     ensures { (stream : ℕ) (payload : List ℕ) → OneFrame stream payload }
 {}
+
+/// The payload that says a frame gives it back on stream 0 where it has an origin, and on each other stream where it
+/// has none, if the field's text has at most 16,384 bytes.
+pub fn written_frames_are_read()
+    ensures spelled { (stream : ℕ) (frame : AltFrame) → IsAltFrame frame → IsStreamOf frame.origin stream →
+        length (value_text frame.value) ≤ most_value_bytes → SpellsFrame stream (payload_of frame) frame }
+    ensures back { (stream : ℕ) (frame : AltFrame) → IsAltFrame frame → IsStreamOf frame.origin stream →
+        length (value_text frame.value) ≤ most_value_bytes → read_frame stream (payload_of frame) ≡ Ok frame }
+{}

@@ -8,7 +8,7 @@ mod refusal;
 mod written;
 
 pub use frame::AltFrame;
-pub use laws::{one_alt_frame, payloads_are_read};
+pub use laws::{one_alt_frame, payloads_are_read, written_frames_are_read};
 pub use reading::parse;
 pub use refusal::AltFrameRefusal;
 pub use written::write;
