@@ -5,6 +5,8 @@ mod frame;
 mod laws;
 mod reading;
 mod refusal;
+#[cfg(test)]
+mod tests;
 mod written;
 
 pub use frame::AltFrame;
