@@ -12,8 +12,6 @@ use Rattle.origin_values.specs.declared.scheme.Scheme.{Scheme}
 use Rattle.origin_values.specs.declared.scheme.Scheme.TheVariants.{Http, Https}
 use Rattle.origin_values.specs.declared.origin.Origin.{Origin}
 use Rattle.altsvc_grammar.specs.ValueReading.{read_value}
-use Rattle.altsvc_grammar.specs.ValueGrammar.{SpellsValue}
-use Rattle.altsvc_grammar.specs.ValueRefusals.{ValueRefusedAt}
 use Rattle.altsvc_grammar.specs.declared.alt_svc.AltSvc.{AltSvc}
 use Rattle.altsvc_grammar.specs.declared.refusal.AltRefusal.{AltRefusal}
 use Rattle.altsvc_grammar.proofs.EveryValue.{read_spelled, read_refused}
@@ -23,7 +21,7 @@ use Rattle.altsvc_frame.specs.declared.frame.AltFrame.{AltFrame}
 use Rattle.altsvc_frame.specs.declared.refusal.AltFrameRefusal.{AltFrameRefusal}
 use Rattle.altsvc_frame.specs.declared.refusal.AltFrameRefusal.TheVariants.{Short, OriginPast, EmptyOnZero, OriginOnStream, BadOrigin, BadField}
 use Rattle.altsvc_frame.specs.Origins.{ascii_origin, IsNoOrigin}
-use Rattle.altsvc_frame.specs.FrameGrammar.{IsSplit, SpellsFrameOrigin, SpellsFrame, IsOriginPast, IsBadField, FrameRefusedAt, OneFrame}
+use Rattle.altsvc_frame.specs.FrameGrammar.{IsSplit, SpellsFrameOrigin, SpellsFrame, FrameRefusedAt, OneFrame}
 use Rattle.altsvc_frame.specs.FrameReading.{Answer, refused, with_field, read_field, behind_origin, read_on_zero, read_on_other, read_parts, read_octets, read_frame}
 use Rattle.altsvc_frame.specs.FrameWritten.{IsOptionalOrigin}
 use Rattle.altsvc_frame.proofs.AsciiOrigins.{ascii_spelled, ascii_read, ascii_none, none_ascii}
@@ -260,7 +258,9 @@ one_frame_of stream payload = record {
 
 -- what a call answers, in the grammar's words
 pub answer_says : (stream : ℕ) (payload : List ℕ) (r : Result AltFrame (Refused AltFrameRefusal)) → Gives r (read_frame stream payload)
-    → IfOk r (λ frame. SpellsFrame stream payload frame) × IfRefused r (λ place reason. FrameRefusedAt stream payload place reason)
-answer_says stream payload (Ok frame) h = (frame_spelled stream payload frame h, tt)
-answer_says stream payload (Err Refusal.NoMemory) h = (tt, tt)
-answer_says stream payload (Err (Refusal.At place reason)) h = (tt, frame_refusal stream payload (record { place = place; reason = reason }) h)
+    → IfOk r (λ frame. SpellsFrame stream payload frame) × IfOk r (λ frame. IsOptionalOrigin frame.origin) × IfRefused r (λ place reason. FrameRefusedAt stream payload place reason)
+answer_says stream payload (Ok frame) h =
+    let spelled = frame_spelled stream payload frame h in
+    (spelled, frame_origin_valid stream payload frame spelled, tt)
+answer_says stream payload (Err Refusal.NoMemory) h = (tt, tt, tt)
+answer_says stream payload (Err (Refusal.At place reason)) h = (tt, tt, frame_refusal stream payload (record { place = place; reason = reason }) h)

@@ -1,15 +1,15 @@
 -- The text of an origin in its form has fewer than 65,536 bytes.
-use Rattle.std.proofs.Common.{◌≡◌, ℕ, zero, suc, ◌+◌, ◌*◌, ◌/◌, ◌%◌, ◌^◌, ◌<◌, ◌≤◌, Bool, true, false, cond, nat_eq, nat_lt, List, [], ◌∷◌, ◌++◌, length, map, take, drop, flat_map, slice_index, codes, decimal, All, Option, None, Some, refl, ap, sym, subst, arith}
+use Rattle.std.proofs.Common.{◌≡◌, ℕ, zero, suc, ◌+◌, ◌*◌, ◌/◌, ◌%◌, ◌^◌, ◌<◌, ◌≤◌, Bool, true, false, cond, nat_eq, nat_lt, List, [], ◌∷◌, ◌++◌, length, take, drop, flat_map, codes, decimal, Option, None, Some, arith}
 use Rattle.std.proofs.lemmas.Fmt.{length-decimal-le}
 use Rattle.std.specs.List.{AllByRecursion}
 use Rattle.std.proofs.lemmas.List.{length-append, length-drop}
 use Rattle.std.proofs.lemmas.List.Elements.{recursion_from_All}
-use Rattle.std.specs.Char.{digit_char, to_ascii_lowercase}
+use Rattle.std.specs.Char.{digit_char}
 use Rattle.std.specs.Net.Addr.{segments_of}
 use Rattle.std.specs.Net.Text.{dotted_text, ipv4_text, hex, leading_zero_digits, groups_text, longest_zero_run, compressed_text, hex_groups_text}
 use Rattle.origin_values.specs.DefaultPort.{default_port_of}
 use Rattle.origin_values.specs.HostGrammar.{SpellsName}
-use Rattle.origin_values.specs.Valid.{AreBytes, IsHost, IsOrigin}
+use Rattle.origin_values.specs.Valid.{IsHost, IsOrigin}
 use Rattle.origin_values.specs.Written.{v6_text, host_text, scheme_text, port_text, origin_text}
 use Rattle.origin_values.specs.declared.scheme.Scheme.{Scheme}
 use Rattle.origin_values.specs.declared.scheme.Scheme.TheVariants.{Http, Https}

@@ -1,5 +1,5 @@
 -- The payload that says a frame is read back.
-use Rattle.std.proofs.Common.{◌≡◌, ℕ, ◌+◌, ◌*◌, ◌/◌, ◌%◌, ◌≤◌, List, [], ◌++◌, length, Option, None, Some, Ok, refl, arith}
+use Rattle.std.proofs.Common.{◌≡◌, ℕ, ◌+◌, ◌*◌, ◌/◌, ◌%◌, ◌≤◌, List, length, Option, None, Some, Ok, refl, arith}
 use Rattle.origin_values.specs.declared.origin.Origin.{Origin}
 use Rattle.altsvc_grammar.specs.Written.{value_text}
 use Rattle.altsvc_grammar.specs.ValueGrammar.{most_value_bytes}
