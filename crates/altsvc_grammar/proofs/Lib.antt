@@ -19,3 +19,4 @@ pub mod WrittenValues
 pub mod UsedValues
 pub mod EveryUsed
 pub mod WrittenUsed
+pub mod ValidValues

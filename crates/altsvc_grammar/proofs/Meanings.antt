@@ -86,7 +86,7 @@ some_listed : (n : ℕ) (kept : List (AltKey × Terms)) → alts_kept kept ≢ [
 some_listed n [] some = absurd (some refl)
 some_listed n (e ∷ kept) some = refl
 
-no_clear_some : (es : List Element) → es ≢ [] → list_any is_clear es ≡ false → firsts [] (alternatives_of es) ≢ []
+pub no_clear_some : (es : List Element) → es ≢ [] → list_any is_clear es ≡ false → firsts [] (alternatives_of es) ≢ []
 no_clear_some [] some none = absurd (some refl)
 no_clear_some (Clear ∷ es) some none = cc
 no_clear_some (Offered a ∷ es) some none = λ e. cc

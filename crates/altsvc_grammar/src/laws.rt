@@ -27,6 +27,11 @@ pub fn values_are_read()
     ensures refused { (x : List ℕ) (q : ℕ) (r : AltRefusal) → ValueRefusedAt x q r → read_value x ≡ refused q r }
 {}
 
+/// A value that is spelled is valid: its alternatives are in their bounds, at least one, and no two have one key.
+pub fn spelled_values_are_valid()
+    ensures { (x : List ℕ) (v : AltSvc) → SpellsValue x v → IsAltSvc v }
+{}
+
 /// Each text is exactly one value or refused at exactly one place for one reason, and never both.
 pub fn one_alt_svc()
     ensures { (x : List ℕ) → OneAltSvc x }
