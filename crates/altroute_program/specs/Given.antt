@@ -7,6 +7,13 @@ use Rattle.altsvc_grammar.specs.declared.refusal.AltRefusal.{AltRefusal}
 use Rattle.altsvc_grammar.specs.declared.refusal.AltRefusal.TheVariants.{Empty, BadToken, BadPercent, NoEquals, BadQuoted, BadAuthority, BadParameter, Trailing, TooLong}
 use Rattle.altsvc_grammar.specs.ValueReading.{read_value}
 use Rattle.altsvc_grammar.specs.Shown.{show_lines}
+use Rattle.hex.specs.Hex.{decode_of}
+use Rattle.hex.specs.declared.error.FromHexError.{FromHexError}
+use Rattle.svcb_wire.specs.declared.svcb.Svcb.{Svcb}
+use Rattle.svcb_wire.specs.declared.refusal.WireRefusal.{WireRefusal}
+use Rattle.svcb_wire.specs.declared.refusal.WireRefusal.TheVariants as wire
+use Rattle.svcb_wire.specs.RecordReading.{read_record}
+use Rattle.altroute_program.specs.RecordJson.{record_line}
 use Rattle.altroute_program.specs.declared.given.Given.{Given}
 use Rattle.altroute_program.specs.declared.given.Given.TheVariants.{Shown, Refused}
 
@@ -41,3 +48,24 @@ altsvc_reading_given (Err at) = Refused (refused_at (altsvc_refusal_number at.re
 
 abbrev pub altsvc_given : List ℕ → Given
 altsvc_given input = altsvc_reading_given (read_value (without_newline input))
+
+-- `show https --json`: the record's JSON
+abbrev pub wire_refusal_number : WireRefusal → ℕ
+wire_refusal_number wire.Short = 1
+wire_refusal_number wire.BadTarget = 2
+wire_refusal_number wire.KeyOrder = 3
+wire_refusal_number wire.ParamPast = 4
+wire_refusal_number (wire.BadValue key) = 5
+wire_refusal_number wire.TooLong = 6
+
+abbrev pub record_reading_given : Result Svcb (At WireRefusal) → Given
+record_reading_given (Ok value) = Shown (record_line value)
+record_reading_given (Err at) = Refused (refused_at (wire_refusal_number at.reason) at.place)
+
+-- an input that isn't hex has no place
+abbrev pub octets_given : Result (List ℕ) FromHexError → Given
+octets_given (Ok octets) = record_reading_given (read_record octets)
+octets_given (Err error) = Refused (codes "refused hex\n")
+
+abbrev pub https_given : List ℕ → Given
+https_given input = octets_given (decode_of (without_newline input))

@@ -8,3 +8,4 @@ pub mod Reached
 pub mod Given
 pub mod WholeInput
 pub mod Runs
+pub mod RecordJson

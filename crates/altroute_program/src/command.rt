@@ -10,6 +10,8 @@ pub enum Command {
     Replay,
     /// Reads one Alt-Svc field value and writes a line for each alternative.
     ShowAltSvc,
+    /// Reads one SVCB or HTTPS record's RDATA in hex and writes it as one line of JSON.
+    ShowHttpsJson,
 }
 
 /// The command that some words are, if they are one.
@@ -27,6 +29,16 @@ pub fn command_of(words: &Words) -> Option<Command>
         [word, second] => {
             if word.as_slice() == b"show".as_slice() && second.as_slice() == b"altsvc".as_slice() {
                 Some(Command::ShowAltSvc)
+            } else {
+                None
+            }
+        }
+        [word, second, third] => {
+            if word.as_slice() == b"show".as_slice()
+                && second.as_slice() == b"https".as_slice()
+                && third.as_slice() == b"--json".as_slice()
+            {
+                Some(Command::ShowHttpsJson)
             } else {
                 None
             }

@@ -43,22 +43,50 @@ fn replayed(
 
 fn shown(
     alloc: Global,
+    all: &[&[u8]],
     input: Bytes,
     failing_reads: &[u32],
     failing_writes: &[u32],
 ) -> Result<Gave, Fail> {
     let mut source = MemorySource::new(input, calls(alloc, failing_reads)?);
     let mut sink = MemorySink::new(alloc, 100_000, calls(alloc, failing_writes)?)?;
-    let status = run(
-        alloc,
-        &words(alloc, &[b"show", b"altsvc"])?,
-        &mut source,
-        &mut sink,
-    );
+    let status = run(alloc, &words(alloc, all)?, &mut source, &mut sink);
     Ok(Gave {
         status: status.number(),
         written: Vec::from_slice(alloc, sink.bytes())?,
     })
+}
+
+#[test]
+fn records(rt: HostRuntime) -> Result<(), Fail> {
+    let alloc = rt.alloc();
+    let rows: [(&[u8], &[u8], u8); 5] = [
+        (
+            b"000100000100030268320003000220fb\n",
+            b"{\"params\":[{\"hex\":\"026832\",\"key\":1},{\"hex\":\"20fb\",\"key\":3}],\"priority\":1,\"target\":\".\"}\n",
+            0,
+        ),
+        (
+            b"00000161076578616d706c6500",
+            b"{\"params\":[],\"priority\":0,\"target\":\"a.example.\"}\n",
+            0,
+        ),
+        (b"", b"refused 1 at 0\n", 1),
+        (b"0", b"refused hex\n", 1),
+        (b"0001000003000201bb0003000201bb", b"refused 3 at 9\n", 1),
+    ];
+    for (input, written, status) in rows {
+        let gave = shown(
+            alloc,
+            &[b"show", b"https", b"--json"],
+            bytes_of(alloc, input)?,
+            &[],
+            &[],
+        )?;
+        assert_eq!(rt; gave.written.as_slice(), written);
+        assert_eq!(rt; gave.status, status);
+    }
+    Ok(())
 }
 
 #[test]
@@ -74,16 +102,36 @@ fn field_values(rt: HostRuntime) -> Result<(), Fail> {
         (b"clear\n\n", b"refused 8 at 5\n", 1),
     ];
     for (input, written, status) in rows {
-        let gave = shown(alloc, bytes_of(alloc, input)?, &[], &[])?;
+        let gave = shown(
+            alloc,
+            &[b"show", b"altsvc"],
+            bytes_of(alloc, input)?,
+            &[],
+            &[],
+        )?;
         assert_eq!(rt; gave.written.as_slice(), written);
         assert_eq!(rt; gave.status, status);
     }
     assert_eq!(rt;
-        shown(alloc, bytes_of(alloc, b"clear")?, &[1], &[])?.status,
+        shown(
+            alloc,
+            &[b"show", b"altsvc"],
+            bytes_of(alloc, b"clear")?,
+            &[1],
+            &[]
+        )?
+        .status,
         3
     );
     assert_eq!(rt;
-        shown(alloc, bytes_of(alloc, b"clear")?, &[], &[1])?.status,
+        shown(
+            alloc,
+            &[b"show", b"altsvc"],
+            bytes_of(alloc, b"clear")?,
+            &[],
+            &[1]
+        )?
+        .status,
         4
     );
     Ok(())
