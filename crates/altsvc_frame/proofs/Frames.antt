@@ -23,7 +23,8 @@ use Rattle.altsvc_frame.specs.declared.refusal.AltFrameRefusal.TheVariants.{Shor
 use Rattle.altsvc_frame.specs.Origins.{ascii_origin, IsNoOrigin}
 use Rattle.altsvc_frame.specs.FrameGrammar.{IsSplit, SpellsFrameOrigin, SpellsFrame, FrameRefusedAt, OneFrame}
 use Rattle.altsvc_frame.specs.FrameReading.{Answer, refused, with_field, read_field, behind_origin, read_on_zero, read_on_other, read_parts, read_octets, read_frame}
-use Rattle.altsvc_frame.specs.FrameWritten.{IsOptionalOrigin}
+use Rattle.altsvc_frame.specs.FrameWritten.{IsOptionalOrigin, IsAltFrame}
+use Rattle.altsvc_grammar.proofs.ValidValues.{value_valid}
 use Rattle.altsvc_frame.proofs.AsciiOrigins.{ascii_spelled, ascii_read, ascii_none, none_ascii}
 
 lt_true : (a b : ℕ) → a < b → nat_lt a b ≡ true
@@ -225,8 +226,8 @@ origin_valid : (stream : ℕ) (text : List ℕ) (origin : Option Origin) → Spe
 origin_valid stream text None h = tt
 origin_valid stream text (Some origin) h = h.1.valid
 
-pub frame_origin_valid : (stream : ℕ) (payload : List ℕ) (frame : AltFrame) → SpellsFrame stream payload frame → IsOptionalOrigin frame.origin
-frame_origin_valid stream payload frame h = origin_valid stream h.text frame.origin h.of_origin
+pub frame_valid : (stream : ℕ) (payload : List ℕ) (frame : AltFrame) → SpellsFrame stream payload frame → IsAltFrame frame
+frame_valid stream payload frame h = record { origin = origin_valid stream h.text frame.origin h.of_origin; value = value_valid h.field frame.value h.of_field }
 
 abbrev ok_of : AltFrame → Answer
 ok_of frame = Ok frame
@@ -258,9 +259,9 @@ one_frame_of stream payload = record {
 
 -- what a call answers, in the grammar's words
 pub answer_says : (stream : ℕ) (payload : List ℕ) (r : Result AltFrame (Refused AltFrameRefusal)) → Gives r (read_frame stream payload)
-    → IfOk r (λ frame. SpellsFrame stream payload frame) × IfOk r (λ frame. IsOptionalOrigin frame.origin) × IfRefused r (λ place reason. FrameRefusedAt stream payload place reason)
+    → IfOk r (λ frame. SpellsFrame stream payload frame) × IfOk r IsAltFrame × IfRefused r (λ place reason. FrameRefusedAt stream payload place reason)
 answer_says stream payload (Ok frame) h =
     let spelled = frame_spelled stream payload frame h in
-    (spelled, frame_origin_valid stream payload frame spelled, tt)
+    (spelled, frame_valid stream payload frame spelled, tt)
 answer_says stream payload (Err Refusal.NoMemory) h = (tt, tt, tt)
 answer_says stream payload (Err (Refusal.At place reason)) h = (tt, tt, frame_refusal stream payload (record { place = place; reason = reason }) h)

@@ -4,11 +4,12 @@ ghost use Rattle.altsvc_grammar.specs.Written.{value_text};
 ghost use Rattle.altsvc_grammar.specs.ValueGrammar.{most_value_bytes};
 ghost use Rattle.altsvc_frame.specs.FrameGrammar.{SpellsFrame, FrameRefusedAt, OneFrame};
 ghost use Rattle.altsvc_frame.specs.FrameReading.{read_frame, refused};
-ghost use Rattle.altsvc_frame.specs.FrameWritten.{payload_of, IsOptionalOrigin, IsAltFrame, IsStreamOf};
+ghost use Rattle.altsvc_frame.specs.FrameWritten.{payload_of, IsAltFrame, IsStreamOf};
 ghost use Rattle.altsvc_frame.specs.declared.frame.AltFrame.{AltFrame};
 ghost use Rattle.altsvc_frame.specs.declared.refusal.AltFrameRefusal.{AltFrameRefusal};
 
-/// On each stream: what is read is spelled so, what is spelled is read, and what is refused is refused so.
+/// On each stream: what is read is spelled so, what is spelled is read and in its form, and what is refused is
+/// refused so.
 pub fn payloads_are_read()
     ensures read { (stream : ℕ) (payload : List ℕ) (frame : AltFrame) →
         read_frame stream payload ≡ Ok frame → SpellsFrame stream payload frame }
@@ -18,8 +19,8 @@ pub fn payloads_are_read()
         SpellsFrame stream payload frame → read_frame stream payload ≡ Ok frame }
     ensures refused { (stream : ℕ) (payload : List ℕ) (place : ℕ) (reason : AltFrameRefusal) →
         FrameRefusedAt stream payload place reason → read_frame stream payload ≡ refused place reason }
-    ensures origin { (stream : ℕ) (payload : List ℕ) (frame : AltFrame) →
-        SpellsFrame stream payload frame → IsOptionalOrigin frame.origin }
+    ensures valid { (stream : ℕ) (payload : List ℕ) (frame : AltFrame) →
+        SpellsFrame stream payload frame → IsAltFrame frame }
 {}
 
 /// On each stream each payload says exactly one frame or is refused at exactly one place, and never both.

@@ -1,7 +1,7 @@
 ghost use Rattle.std.specs.Prelude.{◌≡◌, ◌<◌, ◌+◌, ◌^◌, length, IfOk};
 ghost use Rattle.origin_values.specs.Gives.{Gives, IfRefused};
 ghost use Rattle.altsvc_frame.specs.FrameGrammar.{SpellsFrame, FrameRefusedAt};
-ghost use Rattle.altsvc_frame.specs.FrameWritten.{IsOptionalOrigin};
+ghost use Rattle.altsvc_frame.specs.FrameWritten.{IsAltFrame};
 ghost use Rattle.altsvc_frame.specs.Origins.{ascii_origin};
 ghost use Rattle.altsvc_frame.specs.FrameReading.{read_field, read_on_zero, read_on_other, read_parts, read_octets, read_frame};
 
@@ -24,7 +24,7 @@ pub fn parse(
 ) -> Result<AltFrame, Refused<AltFrameRefusal>>
     ensures reading { Gives result (read_frame stream payload.now) }
     ensures ok { IfOk result (λ frame. SpellsFrame stream payload.now frame) }
-    ensures origin { IfOk result (λ frame. IsOptionalOrigin frame.origin) }
+    ensures valid { IfOk result IsAltFrame }
     ensures refused { IfRefused result (λ place reason. FrameRefusedAt stream payload.now place reason) }
 {
     read_frame(alloc, stream, payload)

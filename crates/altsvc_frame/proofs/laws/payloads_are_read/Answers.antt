@@ -1,4 +1,4 @@
-use Rattle.altsvc_frame.proofs.Frames.{frame_spelled, frame_refusal, frame_read, frame_refused, frame_origin_valid}
+use Rattle.altsvc_frame.proofs.Frames.{frame_spelled, frame_refusal, frame_read, frame_refused, frame_valid}
 use Rattle.altsvc_frame.proofs.laws.payloads_are_read.Goals as goal
 
 pub returns-clause-read : goal.returns-clause-read
@@ -13,5 +13,5 @@ returns-clause-spelled c = λ stream payload frame h. frame_read stream payload 
 pub returns-clause-refused : goal.returns-clause-refused
 returns-clause-refused c = λ stream payload place reason h. frame_refused stream payload place reason h
 
-pub returns-clause-origin : goal.returns-clause-origin
-returns-clause-origin c = λ stream payload frame h. frame_origin_valid stream payload frame h
+pub returns-clause-valid : goal.returns-clause-valid
+returns-clause-valid c = λ stream payload frame h. frame_valid stream payload frame h
