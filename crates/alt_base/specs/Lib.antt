@@ -3,3 +3,4 @@ pub mod Devices
 pub mod Classes
 pub mod MemorySource
 pub mod MemorySink
+pub mod Answers

@@ -5,8 +5,8 @@ use Rattle.std.proofs.lemmas.Bool.Decides.{nat_tests}
 use Rattle.alt_base.specs.declared.refusal.At.{At}
 use Rattle.alt_base.specs.declared.refusal.Refused.{Refused}
 use Rattle.alt_base.specs.declared.refusal.Refused.TheVariants as Refusal
-use Rattle.origin_values.specs.AsciiOrigin.{SpellsAscii}
-use Rattle.origin_values.specs.Gives.{Gives, IfRefused}
+use Rattle.origin_values.specs.AsciiOrigin.{SpellsAscii, IsNoOrigin}
+use Rattle.alt_base.specs.Answers.{Answers, IfRefused}
 use Rattle.origin_values.specs.Written.{origin_text}
 use Rattle.origin_values.specs.declared.scheme.Scheme.{Scheme}
 use Rattle.origin_values.specs.declared.scheme.Scheme.TheVariants.{Http, Https}
@@ -20,24 +20,13 @@ use Rattle.altsvc_grammar.proofs.RefusedValues.{value_refused}
 use Rattle.altsvc_frame.specs.declared.frame.AltFrame.{AltFrame}
 use Rattle.altsvc_frame.specs.declared.refusal.AltFrameRefusal.{AltFrameRefusal}
 use Rattle.altsvc_frame.specs.declared.refusal.AltFrameRefusal.TheVariants.{Short, OriginPast, EmptyOnZero, OriginOnStream, BadOrigin, BadField}
-use Rattle.altsvc_frame.specs.Origins.{ascii_origin, IsNoOrigin}
 use Rattle.altsvc_frame.specs.FrameGrammar.{IsSplit, SpellsFrameOrigin, SpellsFrame, FrameRefusedAt, OneFrame}
 use Rattle.altsvc_frame.specs.FrameReading.{Answer, refused, with_field, read_field, behind_origin, read_on_zero, read_on_other, read_parts, read_octets, read_frame}
 use Rattle.altsvc_frame.specs.FrameWritten.{IsOptionalOrigin, IsAltFrame}
 use Rattle.altsvc_grammar.proofs.ValidValues.{value_valid}
-use Rattle.altsvc_frame.proofs.AsciiOrigins.{ascii_spelled, ascii_read, ascii_none, none_ascii}
-
-lt_true : (a b : ℕ) → a < b → nat_lt a b ≡ true
-lt_true a b h = grind (arith, nat_tests)
-
-lt_false : (a b : ℕ) → b ≤ a → nat_lt a b ≡ false
-lt_false a b h = grind (arith, nat_tests)
-
-true_lt : (a b : ℕ) → nat_lt a b ≡ true → a < b
-true_lt a b h = grind (arith, nat_tests)
-
-false_lt : (a b : ℕ) → nat_lt a b ≡ false → b ≤ a
-false_lt a b h = grind (arith, nat_tests)
+use Rattle.origin_values.specs.AsciiReading.{ascii_origin}
+use Rattle.origin_values.proofs.AsciiOrigins.{ascii_spelled, ascii_read, ascii_none, none_ascii}
+use Rattle.alt_base.proofs.Numbers.{lt_true, lt_false, true_lt, false_lt}
 
 zero_from_test : (n : ℕ) → nat_eq n 0 ≡ true → n ≡ 0
 zero_from_test n h = grind arith
@@ -258,7 +247,7 @@ one_frame_of stream payload = record {
     clash frame at e = cc
 
 -- what a call answers, in the grammar's words
-pub answer_says : (stream : ℕ) (payload : List ℕ) (r : Result AltFrame (Refused AltFrameRefusal)) → Gives r (read_frame stream payload)
+pub answer_says : (stream : ℕ) (payload : List ℕ) (r : Result AltFrame (Refused AltFrameRefusal)) → Answers r (read_frame stream payload)
     → IfOk r (λ frame. SpellsFrame stream payload frame) × IfOk r IsAltFrame × IfRefused r (λ place reason. FrameRefusedAt stream payload place reason)
 answer_says stream payload (Ok frame) h =
     let spelled = frame_spelled stream payload frame h in

@@ -1,4 +1,3 @@
-pub mod AsciiOrigins
 pub mod OriginLengths
 pub mod Frames
 pub mod WrittenFrames

@@ -1,11 +1,10 @@
 -- The payload of an ALTSVC frame (RFC 7838 4), beside what it says, by how it splits; and the table of refusals.
 use Rattle.std.specs.Prelude.{◌≡◌, ◌≢◌, ◌⊎◌, ℕ, ◌+◌, ◌*◌, ◌<◌, List, [], ◌∷◌, ◌++◌, length, Option, None, Some}
-use Rattle.origin_values.specs.AsciiOrigin.{SpellsAscii}
+use Rattle.origin_values.specs.AsciiOrigin.{SpellsAscii, IsNoOrigin}
 use Rattle.origin_values.specs.declared.origin.Origin.{Origin}
 use Rattle.altsvc_grammar.specs.ValueGrammar.{SpellsValue}
 use Rattle.altsvc_grammar.specs.ValueRefusals.{ValueRefusedAt}
 use Rattle.altsvc_grammar.specs.declared.refusal.AltRefusal.{AltRefusal}
-use Rattle.altsvc_frame.specs.Origins.{IsNoOrigin}
 use Rattle.altsvc_frame.specs.declared.frame.AltFrame.{AltFrame}
 use Rattle.altsvc_frame.specs.declared.refusal.AltFrameRefusal.{AltFrameRefusal}
 use Rattle.altsvc_frame.specs.declared.refusal.AltFrameRefusal.TheVariants.{Short, OriginPast, EmptyOnZero, OriginOnStream, BadOrigin, BadField}

@@ -1,4 +1,3 @@
-pub mod Origins
 pub mod FrameGrammar
 pub mod FrameReading
 pub mod FrameWritten

@@ -1,8 +1,8 @@
 ghost use Rattle.std.specs.Prelude.{◌≡◌, ◌<◌, ◌+◌, ◌^◌, length, IfOk};
-ghost use Rattle.origin_values.specs.Gives.{Gives, IfRefused};
+ghost use Rattle.alt_base.specs.Answers.{Answers, IfRefused};
 ghost use Rattle.altsvc_frame.specs.FrameGrammar.{SpellsFrame, FrameRefusedAt};
 ghost use Rattle.altsvc_frame.specs.FrameWritten.{IsAltFrame};
-ghost use Rattle.altsvc_frame.specs.Origins.{ascii_origin};
+ghost use Rattle.origin_values.specs.AsciiReading.{ascii_origin};
 ghost use Rattle.altsvc_frame.specs.FrameReading.{read_field, read_on_zero, read_on_other, read_parts, read_octets, read_frame};
 
 use crate::{AltFrame, AltFrameRefusal};
@@ -22,7 +22,7 @@ pub fn parse(
     stream: u32,
     payload: &[u8],
 ) -> Result<AltFrame, Refused<AltFrameRefusal>>
-    ensures reading { Gives result (read_frame stream payload.now) }
+    ensures reading { Answers result (read_frame stream payload.now) }
     ensures ok { IfOk result (λ frame. SpellsFrame stream payload.now frame) }
     ensures valid { IfOk result IsAltFrame }
     ensures refused { IfRefused result (λ place reason. FrameRefusedAt stream payload.now place reason) }
@@ -35,7 +35,7 @@ fn read_frame(
     stream: u32,
     payload: &[u8],
 ) -> Result<AltFrame, Refused<AltFrameRefusal>>
-    ensures { Gives result (read_frame stream payload.now) }
+    ensures { Answers result (read_frame stream payload.now) }
 {
     match payload {
         [high, low, octets @ ..] => {
@@ -57,7 +57,7 @@ fn read_octets(
     octets: &[u8],
 ) -> Result<AltFrame, Refused<AltFrameRefusal>>
     requires { count < 2 ^ 16 }
-    ensures { Gives result (read_octets stream count octets.now) }
+    ensures { Answers result (read_octets stream count octets.now) }
 {
     if octets.len() < count {
         return Err(Refused::At {
@@ -75,7 +75,7 @@ fn read_parts(
     field: &[u8],
 ) -> Result<AltFrame, Refused<AltFrameRefusal>>
     requires { length text.now < 2 ^ 16 }
-    ensures { Gives result (read_parts stream text.now field.now) }
+    ensures { Answers result (read_parts stream text.now field.now) }
 {
     if stream == 0 {
         read_on_zero(alloc, text, field)
@@ -90,7 +90,7 @@ fn read_on_zero(
     field: &[u8],
 ) -> Result<AltFrame, Refused<AltFrameRefusal>>
     requires { length text.now < 2 ^ 16 }
-    ensures { Gives result (read_on_zero text.now field.now) }
+    ensures { Answers result (read_on_zero text.now field.now) }
 {
     if text.is_empty() {
         return Err(Refused::At {
@@ -112,7 +112,7 @@ fn read_on_other(
     text: &[u8],
     field: &[u8],
 ) -> Result<AltFrame, Refused<AltFrameRefusal>>
-    ensures { Gives result (read_on_other text.now field.now) }
+    ensures { Answers result (read_on_other text.now field.now) }
 {
     if !text.is_empty() {
         return Err(Refused::At {
@@ -131,7 +131,7 @@ fn read_field(
     field: &[u8],
 ) -> Result<AltFrame, Refused<AltFrameRefusal>>
     requires { place < 2 ^ 17 }
-    ensures { Gives result (read_field origin place field.now) }
+    ensures { Answers result (read_field origin place field.now) }
 {
     match altsvc_grammar::parse(alloc, field) {
         Ok(value) => Ok(AltFrame { origin, value }),

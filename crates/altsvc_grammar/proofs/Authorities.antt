@@ -14,6 +14,7 @@ use Rattle.origin_values.specs.declared.host.Host.{Host}
 use Rattle.origin_values.proofs.Hosts.{read_host_complete, read_host_sound}
 use Rattle.altsvc_grammar.specs.AuthorityReading.{last_colon, read_port, read_optional_host, with_port, host_beside, split_at_colon, read_authority}
 use Rattle.altsvc_grammar.specs.AuthorityGrammar.{SpellsPort, SpellsOptionalHost, SpellsAuthority}
+use Rattle.alt_base.proofs.Conjunctions.{both}
 
 in_range : (b : ℕ) → is_ascii_digit b ≡ true → IsInRange 48 57 b
 in_range b is = grind (arith, nat_tests)
@@ -34,11 +35,6 @@ all_digits (b ∷ bs) is = go (is_ascii_digit b) refl is (λ rest. all_digits bs
 pub digits_all : (x : List ℕ) → AllDigits 10 x → list_all is_ascii_digit x ≡ true
 digits_all [] valid = refl
 digits_all (b ∷ bs) valid = rw (is_digit b (digit_from_value b valid.0)) (digits_all bs valid.1)
-
-both : (a b : Bool) → (a && b) ≡ true → (a ≡ true) × (b ≡ true)
-both true true h = (refl, refl)
-both true false h = cc
-both false b h = cc
 
 le_test : (a b : ℕ) → a ≤ b → nat_le a b ≡ true
 le_test a b h = grind arith

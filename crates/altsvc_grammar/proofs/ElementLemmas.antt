@@ -8,7 +8,7 @@ use Rattle.field_text.specs.BlanksReading.{read_blanks, after_blanks}
 use Rattle.field_text.specs.TokenGrammar.{SpellsToken}
 use Rattle.field_text.specs.TokenReading.{after_token, token_of}
 use Rattle.field_text.proofs.TokenLemmas.{token_spelled, token_taken, token_rest}
-use Rattle.origin_values.specs.Gives.{Gives}
+use Rattle.alt_base.specs.Answers.{Answers}
 use Rattle.altsvc_grammar.specs.declared.refusal.AltRefusal.{AltRefusal}
 use Rattle.altsvc_grammar.specs.declared.refusal.AltRefusal.TheVariants.{Trailing}
 use Rattle.altsvc_grammar.specs.declared.element.Element.{Element}
@@ -41,7 +41,7 @@ of_protocol most p q x s inside equals = by_token most p q x s ∙ rw (front_byt
 
 -- a refusal is passed on
 pub refused_on : {A B R : Type 0} (input : List ℕ) (more : Result A (At R) → Result (Step B) (At R)) → ((at : At R) → more (Err at) ≡ Err at)
-    → (e : Refused R) (reading : Result A (At R)) → Gives (Err e) reading → GivesStep input (Err e) (more reading)
+    → (e : Refused R) (reading : Result A (At R)) → Answers (Err e) reading → GivesStep input (Err e) (more reading)
 refused_on input more passes refusal.NoMemory reading h = tt
 refused_on input more passes (refusal.At place reason) reading h = ap more h ∙ passes (record { place = place; reason = reason })
 

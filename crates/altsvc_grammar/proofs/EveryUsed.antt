@@ -6,7 +6,7 @@ use Rattle.alt_base.specs.declared.refusal.Refused as Fails
 use Rattle.alt_base.specs.declared.refusal.Refused.TheVariants as fails
 use Rattle.field_text.specs.Runs.{BeginsIn, IsLongestRun, run_of, after_run}
 use Rattle.field_text.proofs.RunLemmas.{longest_run}
-use Rattle.origin_values.specs.Gives.{Gives, IfRefused}
+use Rattle.alt_base.specs.Answers.{Answers, IfRefused}
 use Rattle.origin_values.specs.HostGrammar.{SpellsHost}
 use Rattle.origin_values.specs.HostReading.{read_host}
 use Rattle.origin_values.specs.declared.host.Host.{Host}
@@ -176,12 +176,12 @@ one_used_of x = record {
   not_both = λ v q r a b. let e : ok_of v ≡ err_of (record { place = q; reason = r }) = sym (used_spelled x v a) ∙ used_refusals x q r b in cc;
 }
 
-pub gives_used : (x : List ℕ) (r : Result (Host × ℕ) (Fails.Refused UsedRefusal)) → Gives r (read_used x) → IfOk r (λ v. SpellsUsed x v)
+pub gives_used : (x : List ℕ) (r : Result (Host × ℕ) (Fails.Refused UsedRefusal)) → Answers r (read_used x) → IfOk r (λ v. SpellsUsed x v)
 gives_used x (Ok v) h = used_read_spelled x v h
 gives_used x (Err fails.NoMemory) h = tt
 gives_used x (Err (fails.At place reason)) h = tt
 
-pub gives_used_refused : (x : List ℕ) (r : Result (Host × ℕ) (Fails.Refused UsedRefusal)) → Gives r (read_used x) → IfRefused r (λ place reason. UsedRefusedAt x place reason)
+pub gives_used_refused : (x : List ℕ) (r : Result (Host × ℕ) (Fails.Refused UsedRefusal)) → Answers r (read_used x) → IfRefused r (λ place reason. UsedRefusedAt x place reason)
 gives_used_refused x (Ok v) h = tt
 gives_used_refused x (Err fails.NoMemory) h = tt
 gives_used_refused x (Err (fails.At place reason)) h = used_read_refused x (record { place = place; reason = reason }) h

@@ -3,7 +3,7 @@ use Rattle.std.proofs.Common.{◌≡◌, ◌≢◌, ◌⊎◌, ℕ, zero, suc, �
 use Rattle.alt_base.specs.declared.refusal.At.{At}
 use Rattle.alt_base.specs.declared.refusal.Refused as Fails
 use Rattle.alt_base.specs.declared.refusal.Refused.TheVariants as fails
-use Rattle.origin_values.specs.Gives.{Gives, IfRefused}
+use Rattle.alt_base.specs.Answers.{Answers, IfRefused}
 use Rattle.field_text.specs.Runs.{BeginsIn}
 use Rattle.field_text.specs.BlanksGrammar.{is_blank}
 use Rattle.altsvc_grammar.specs.declared.alt_svc.AltSvc.{AltSvc}
@@ -197,12 +197,12 @@ one_answer x = record {
 }
 
 -- a call that gives the reading says so
-pub gives_spelled : (x : List ℕ) (r : Result AltSvc (Fails.Refused AltRefusal)) → Gives r (read_value x) → IfOk r (λ v. SpellsValue x v)
+pub gives_spelled : (x : List ℕ) (r : Result AltSvc (Fails.Refused AltRefusal)) → Answers r (read_value x) → IfOk r (λ v. SpellsValue x v)
 gives_spelled x (Ok v) h = read_spelled x v h
 gives_spelled x (Err fails.NoMemory) h = tt
 gives_spelled x (Err (fails.At place reason)) h = tt
 
-pub gives_refused : (x : List ℕ) (r : Result AltSvc (Fails.Refused AltRefusal)) → Gives r (read_value x) → IfRefused r (λ place reason. ValueRefusedAt x place reason)
+pub gives_refused : (x : List ℕ) (r : Result AltSvc (Fails.Refused AltRefusal)) → Answers r (read_value x) → IfRefused r (λ place reason. ValueRefusedAt x place reason)
 gives_refused x (Ok v) h = tt
 gives_refused x (Err fails.NoMemory) h = tt
 gives_refused x (Err (fails.At place reason)) h = read_refused x (record { place = place; reason = reason }) h

@@ -13,6 +13,7 @@ use Rattle.altsvc_grammar.specs.AuthorityGrammar.{IsProtocol}
 use Rattle.altsvc_grammar.specs.ParameterGrammar.{IsToken}
 use Rattle.altsvc_grammar.specs.Steps.{refused}
 use Rattle.altsvc_grammar.specs.declared.refusal.AltRefusal.TheVariants.{BadToken, BadPercent}
+use Rattle.alt_base.proofs.Conjunctions.{both}
 
 -- what holds of the digits 0 to 15
 for_each_digit : (P : ℕ → Type 0) → P 0 → P 1 → P 2 → P 3 → P 4 → P 5 → P 6 → P 7 → P 8 → P 9 → P 10 → P 11 → P 12 → P 13 → P 14 → P 15 → (d : ℕ) → d < 16 → P d
@@ -48,11 +49,6 @@ glyph d small =
     (record { token = refl; hex = refl; value = refl; no_percent = refl }) (record { token = refl; hex = refl; value = refl; no_percent = refl }) (record { token = refl; hex = refl; value = refl; no_percent = refl }) (record { token = refl; hex = refl; value = refl; no_percent = refl })
     (record { token = refl; hex = refl; value = refl; no_percent = refl }) (record { token = refl; hex = refl; value = refl; no_percent = refl }) (record { token = refl; hex = refl; value = refl; no_percent = refl }) (record { token = refl; hex = refl; value = refl; no_percent = refl })
     d small
-
-both : (a b : Bool) → (a && b) ≡ true → (a ≡ true) × (b ≡ true)
-both true true h = (refl, refl)
-both true false h = cc
-both false b h = cc
 
 not_true : (b : Bool) → not b ≡ true → b ≡ false
 not_true true h = cc

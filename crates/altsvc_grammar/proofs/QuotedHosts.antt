@@ -20,6 +20,7 @@ use Rattle.origin_values.specs.declared.host.Host.TheVariants.{Name, V4, V6}
 use Rattle.origin_values.proofs.Names.{name_labels}
 use Rattle.origin_values.proofs.HostTexts.{host_written}
 use Rattle.altsvc_grammar.proofs.Percents.{all_append}
+use Rattle.alt_base.proofs.Conjunctions.{both}
 
 le_test : (a b : ℕ) → a ≤ b → nat_le a b ≡ true
 le_test a b h = grind arith
@@ -153,11 +154,6 @@ name_byte_quoted b h = graphic_quoted b (low (nat_le 35 b) refl) (high (nat_le b
     high : (t : Bool) → nat_le b 126 ≡ t → b ≤ 126
     high true is = le_fact b 126 is
     high false is = absurd (both_ways (in_ranges host_name_class b) h (above (lt_fact b 126 is)))
-
-both : (a b : Bool) → (a && b) ≡ true → (a ≡ true) × (b ≡ true)
-both true true h = (refl, refl)
-both true false h = cc
-both false b h = cc
 
 labels_in : (class : ℕ → Bool) (name : (b : ℕ) → in_ranges host_name_class b ≡ true → class b ≡ true) (dot : class 46 ≡ true) (text : List ℕ) (count : ℕ) (digits : Bool) → are_labels count digits text ≡ true → AllIn class text
 labels_in class name dot [] count digits h = tt

@@ -25,6 +25,7 @@ use Rattle.altsvc_grammar.specs.Valid.{IsOptionalHost, IsKey, IsAlt, AreAlts, Ar
 use Rattle.altsvc_grammar.proofs.QuotedHosts.{host_quoted, decimal_quoted, decimal_digits}
 use Rattle.altsvc_grammar.proofs.Percents.{all_append}
 use Rattle.altsvc_grammar.proofs.Authorities.{digits_all}
+use Rattle.alt_base.proofs.Conjunctions.{both}
 
 -- quoted text alone
 abbrev raw_parts : List ℕ → List Part
@@ -55,11 +56,6 @@ digit_token : (b : ℕ) → is_ascii_digit b ≡ true → is_token b ≡ true
 digit_token b h =
     fifth_in (nat_le 33 b && nat_le b 33) (nat_le 35 b && nat_le b 39) (nat_le 42 b && nat_le b 43) (nat_le 45 b && nat_le b 46) (nat_le 48 b && nat_le b 57)
     ((nat_le 65 b && nat_le b 90) || ((nat_le 94 b && nat_le b 122) || ((nat_le 124 b && nat_le b 124) || ((nat_le 126 b && nat_le b 126) || false)))) h
-
-both : (a b : Bool) → (a && b) ≡ true → (a ≡ true) × (b ≡ true)
-both true true h = (refl, refl)
-both true false h = cc
-both false b h = cc
 
 tokens_of : (x : List ℕ) → list_all is_ascii_digit x ≡ true → AllIn is_token x
 tokens_of [] h = tt

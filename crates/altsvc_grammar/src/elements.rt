@@ -1,6 +1,6 @@
 ghost use Rattle.std.specs.Prelude.{◌≡◌, ◌≤◌, ◌<◌, ◌^◌, ◌+◌, length, drop, nat_eq, codes, false, [], IfOk};
 ghost use Rattle.std.specs.Cmp.Lexicographic.{pointwise};
-ghost use Rattle.origin_values.specs.Gives.{Gives};
+ghost use Rattle.alt_base.specs.Answers.{Answers};
 ghost use Rattle.alt_base.specs.declared.refusal.Refused.TheVariants.{At as RefusedThere};
 ghost use Rattle.altsvc_grammar.specs.Steps.{GivesStep};
 ghost use Rattle.altsvc_grammar.specs.ValueReading.{nothing_seen, lone_token, with_protocol, with_terms, read_element, seen_element, read_elements};

@@ -1,6 +1,6 @@
 ghost use Rattle.std.specs.Prelude.{◌≡◌, ◌≤◌, ◌<◌, ◌^◌, ◌+◌, length, true, [], ◌∷◌, IfOk, IfSome};
 ghost use Rattle.percent_encoding.specs.Percent.{percent_decode};
-ghost use Rattle.origin_values.specs.Gives.{Gives};
+ghost use Rattle.alt_base.specs.Answers.{Answers};
 ghost use Rattle.altsvc_grammar.specs.Written.{is_plain};
 ghost use Rattle.altsvc_grammar.specs.ProtocolReading.{is_upper_hex, hex_value, is_coded, is_bad_percent, bad_percent, read_protocol};
 
@@ -19,7 +19,7 @@ pub(crate) fn read_protocol(
     place: u32,
 ) -> Result<Bytes, Refused<AltRefusal>>
     requires { place + length token.now < 2 ^ 32 }
-    ensures { Gives result (read_protocol place token.now) }
+    ensures { Answers result (read_protocol place token.now) }
 {
     if let Some(bad) = bad_percent(token, place) {
         return Err(Refused::At {

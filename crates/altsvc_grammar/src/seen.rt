@@ -1,7 +1,7 @@
 ghost use Rattle.std.specs.Prelude.{◌≡◌, false, [], map, IfOk, OnOk};
 ghost use Rattle.altsvc_grammar.specs.SeenElements.{seen_of};
 ghost use Rattle.altsvc_grammar.specs.ValueReading.{keep, see, alt_of, value_of};
-ghost use Rattle.origin_values.specs.Gives.{Gives};
+ghost use Rattle.alt_base.specs.Answers.{Answers};
 
 use crate::element::Element;
 use crate::terms::Terms;
@@ -47,7 +47,7 @@ impl Seen {
         alloc: Global,
         length: u32,
     ) -> Result<AltSvc, Refused<AltRefusal>>
-        ensures { Gives result (value_of length (seen_of self)) }
+        ensures { Answers result (value_of length (seen_of self)) }
     {
         let Seen { clear, kept } = self;
         if clear {

@@ -1,5 +1,5 @@
 ghost use Rattle.std.specs.Prelude.{◌≡◌, ◌≤◌, ◌<◌, ◌^◌, ◌+◌, length, IfOk, IfSome, nat_eq};
-ghost use Rattle.origin_values.specs.Gives.{Gives, IfRefused};
+ghost use Rattle.alt_base.specs.Answers.{Answers, IfRefused};
 ghost use Rattle.origin_values.specs.HostReading.{read_host};
 ghost use Rattle.origin_values.specs.OriginReading.{bracket_end, count_before, digits_before};
 ghost use Rattle.altsvc_grammar.specs.UsedReading.{read_used, used_host_end, used_at_end, used_digits, after_used_host};
@@ -24,7 +24,7 @@ const DEFAULT_PORT: u16 = 443;
 /// port stands there; `Trailing` at the first byte left.
 pub fn parse_alt_used(alloc: Global, input: &[u8]) -> Result<(Host, u16), Refused<UsedRefusal>>
     requires { length input.now < 2 ^ 32 }
-    ensures reading { Gives result (read_used input.now) }
+    ensures reading { Answers result (read_used input.now) }
     ensures ok { IfOk result (λ used. SpellsUsed input.now used) }
     ensures refused { IfRefused result (λ place reason. UsedRefusedAt input.now place reason) }
 {
@@ -33,7 +33,7 @@ pub fn parse_alt_used(alloc: Global, input: &[u8]) -> Result<(Host, u16), Refuse
 
 fn read_used(alloc: Global, input: &[u8]) -> Result<(Host, u16), Refused<UsedRefusal>>
     requires { length input.now < 2 ^ 32 }
-    ensures { Gives result (read_used input.now) }
+    ensures { Answers result (read_used input.now) }
 {
     let end = match host_end(input) {
         Some(end) => end,
@@ -105,7 +105,7 @@ fn plain_end(text: &[u8]) -> usize
 // What follows the host, which ends at this place.
 fn after_host(host: Host, place: u32, rest: &[u8]) -> Result<(Host, u16), Refused<UsedRefusal>>
     requires { place + length rest.now < 2 ^ 32 }
-    ensures { Gives result (after_used_host host place rest.now) }
+    ensures { Answers result (after_used_host host place rest.now) }
 {
     match rest {
         [] => Ok((host, DEFAULT_PORT)),
@@ -117,7 +117,7 @@ fn after_host(host: Host, place: u32, rest: &[u8]) -> Result<(Host, u16), Refuse
 // What follows the colon, which ends at this place.
 fn after_colon(host: Host, place: u32, text: &[u8]) -> Result<(Host, u16), Refused<UsedRefusal>>
     requires { place + length text.now < 2 ^ 32 }
-    ensures { Gives result (used_digits host place (digits_before text.now) text.now) }
+    ensures { Answers result (used_digits host place (digits_before text.now) text.now) }
 {
     let count = digits_before(text);
     match read_port(&text[..count]) {
@@ -146,7 +146,7 @@ fn at_end(
     place: u32,
     rest: &[u8],
 ) -> Result<(Host, u16), Refused<UsedRefusal>>
-    ensures { Gives result (used_at_end host port place rest.now) }
+    ensures { Answers result (used_at_end host port place rest.now) }
 {
     if rest.is_empty() {
         Ok((host, port))

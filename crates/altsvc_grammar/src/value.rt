@@ -1,5 +1,5 @@
 ghost use Rattle.std.specs.Prelude.{IfOk};
-ghost use Rattle.origin_values.specs.Gives.{Gives, IfRefused};
+ghost use Rattle.alt_base.specs.Answers.{Answers, IfRefused};
 ghost use Rattle.altsvc_grammar.specs.ValueGrammar.{SpellsValue};
 ghost use Rattle.altsvc_grammar.specs.ValueRefusals.{ValueRefusedAt};
 ghost use Rattle.altsvc_grammar.specs.ValueReading.{read_value};
@@ -23,7 +23,7 @@ const MOST_BYTES: usize = 16_384;
 /// its text is no host and port; `BadParameter` at the first byte of a parameter that is missing or wrong; `Trailing` at
 /// a byte behind an element that is no comma; and last `Empty` at the length where there is no element.
 pub fn parse(alloc: Global, input: &[u8]) -> Result<AltSvc, Refused<AltRefusal>>
-    ensures reading { Gives result (read_value input.now) }
+    ensures reading { Answers result (read_value input.now) }
     ensures ok { IfOk result (λ value. SpellsValue input.now value) }
     ensures refused { IfRefused result (λ place reason. ValueRefusedAt input.now place reason) }
 {
@@ -31,7 +31,7 @@ pub fn parse(alloc: Global, input: &[u8]) -> Result<AltSvc, Refused<AltRefusal>>
 }
 
 fn read_value(alloc: Global, input: &[u8]) -> Result<AltSvc, Refused<AltRefusal>>
-    ensures { Gives result (read_value input.now) }
+    ensures { Answers result (read_value input.now) }
 {
     if input.len() > MOST_BYTES {
         return Err(Refused::At {

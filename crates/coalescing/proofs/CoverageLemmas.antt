@@ -10,6 +10,7 @@ use Rattle.coalescing.specs.declared.cert_name.CertName.TheVariants.{Exact, Wild
 use Rattle.coalescing.specs.Covers.{covers, covers_host, adds_one_label, behind_dot}
 use Rattle.coalescing.specs.Coverage.{IsLabelBefore, CoversHost, CoverHost}
 use Rattle.coalescing.proofs.Apart.{Without, same_from_test, without_nil, without_cons, without_tail, without_head}
+use Rattle.alt_base.proofs.Conjunctions.{both}
 
 same_from : (a b : List ℕ) → pointwise nat_eq a b ≡ true → a ≡ b
 same_from a b h = same_text a b (sym h)
@@ -41,11 +42,6 @@ cut_from_test (b ∷ bs) base h = go (λ e. cut_from_test bs base e) (nat_eq b 4
 test_from_cut : (front base : List ℕ) → Without 46 front → behind_dot (front ++ 46 ∷ base) base ≡ true
 test_from_cut [] base h = same_itself base
 test_from_cut (b ∷ front) base h = rw (without_head 46 b front h) (test_from_cut front base (without_tail 46 b front h))
-
-both : (a b : Bool) → (a && b) ≡ true → (a ≡ true) × (b ≡ true)
-both true true h = (refl, refl)
-both true false h = cc
-both false b h = cc
 
 not_true : (a : Bool) → not a ≡ true → a ≡ false
 not_true true h = cc

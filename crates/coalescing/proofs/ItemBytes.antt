@@ -14,6 +14,7 @@ use Rattle.origin_values.specs.declared.address.Addr.{Addr}
 use Rattle.origin_values.specs.declared.address.Addr.TheVariants as address
 use Rattle.origin_values.proofs.Names.{name_labels}
 use Rattle.coalescing.proofs.Apart.{Without, same_from_test, false_true}
+use Rattle.alt_base.proofs.Conjunctions.{both}
 
 -- a byte other than `*` and `,`
 abbrev pub is_plain : ℕ → Bool
@@ -21,11 +22,6 @@ is_plain b = not (nat_eq b 42 || nat_eq b 44)
 
 abbrev pub IsPlain : List ℕ → Type 0
 IsPlain text = list_all is_plain text ≡ true
-
-both : (a b : Bool) → (a && b) ≡ true → (a ≡ true) × (b ≡ true)
-both true true h = (refl, refl)
-both true false h = cc
-both false b h = cc
 
 and_from : (a b : Bool) → a ≡ true → b ≡ true → (a && b) ≡ true
 and_from a b h k = rw (h, k) refl

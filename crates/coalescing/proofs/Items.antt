@@ -15,6 +15,7 @@ use Rattle.coalescing.specs.NamesReading.{name_of, host_name, behind_wildcard, r
 use Rattle.coalescing.proofs.Apart.{Without, same_from_test, false_true, without_cons}
 use Rattle.coalescing.proofs.ItemBytes.{is_plain, IsPlain, plain_apart, name_plain, addr_plain}
 use Rattle.coalescing.proofs.Colons.{no_addr_and_name}
+use Rattle.alt_base.proofs.Conjunctions.{both}
 
 name_read : (text name : List ℕ) → SpellsName text name → host_name text ≡ Some name
 name_read text name h = ap name_of (read_host_complete text (Name name) h)
@@ -39,11 +40,6 @@ plain_no_wildcard : (text : List ℕ) → IsPlain text → behind_wildcard text 
 plain_no_wildcard [] h = refl
 plain_no_wildcard (a ∷ []) h = refl
 plain_no_wildcard (a ∷ b ∷ bs) h = ap (λ t. cond (t && nat_eq b 46) (Some bs) None) (no_asterisk a (list_all is_plain (b ∷ bs)) h)
-
-both : (a b : Bool) → (a && b) ≡ true → (a ≡ true) × (b ≡ true)
-both true true h = (refl, refl)
-both true false h = cc
-both false b h = cc
 
 wildcard_spelled : (text behind : List ℕ) → behind_wildcard text ≡ Some behind → text ≡ 42 ∷ 46 ∷ behind
 wildcard_spelled [] behind h = cc

@@ -6,7 +6,7 @@ use Rattle.std.proofs.lemmas.List.Splits.{join_with_byte-slice_split, length-sli
 use Rattle.alt_base.specs.declared.refusal.At.{At}
 use Rattle.alt_base.specs.declared.refusal.Refused.{Refused}
 use Rattle.alt_base.specs.declared.refusal.Refused.TheVariants as refused
-use Rattle.origin_values.specs.Gives.{Gives, IfRefused}
+use Rattle.alt_base.specs.Answers.{Answers, IfRefused}
 use Rattle.origin_values.specs.HostGrammar.{SpellsName}
 use Rattle.coalescing.specs.declared.cert_name.CertName.{CertName}
 use Rattle.coalescing.specs.declared.cert_name.CertName.TheVariants.{Exact}
@@ -222,7 +222,7 @@ one_names_of text = record {
     clash names at e = cc
 
 -- what a call answers, in the grammar's words
-pub answer_says : (text : List ℕ) (r : Result (List CertName) (Refused CertRefusal)) → Gives r (read_names text)
+pub answer_says : (text : List ℕ) (r : Result (List CertName) (Refused CertRefusal)) → Answers r (read_names text)
     → IfOk r (λ names. SpellsNames text names) × IfRefused r (λ place reason. NamesRefusedAt text place reason)
 answer_says text (Ok names) h = (names_spelled text names h, tt)
 answer_says text (Err refused.NoMemory) h = (tt, tt)

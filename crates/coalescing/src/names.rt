@@ -1,5 +1,5 @@
 ghost use Rattle.std.specs.Prelude.{◌≡◌, ◌<◌, ◌^◌, length, IfOk};
-ghost use Rattle.origin_values.specs.Gives.{Gives, IfRefused};
+ghost use Rattle.alt_base.specs.Answers.{Answers, IfRefused};
 ghost use Rattle.coalescing.specs.NamesGrammar.{SpellsNames, NamesRefusedAt};
 ghost use Rattle.coalescing.specs.NamesWritten.{HaveText};
 ghost use Rattle.coalescing.specs.NamesReading.{host_name, read_item, read_items, items_of, read_names};
@@ -14,7 +14,7 @@ use std::alloc::Global;
 /// always none. `BadName` comes at the first byte of the first item that is none of these, which may be empty.
 pub fn parse_names(alloc: Global, text: &[u8]) -> Result<CertNames, Refused<CertRefusal>>
     requires { length text.now < 2 ^ 32 }
-    ensures reading { Gives result (read_names text.now) }
+    ensures reading { Answers result (read_names text.now) }
     ensures ok { IfOk result (λ names. SpellsNames text.now names) }
     ensures valid { IfOk result (λ names. HaveText names) }
     ensures refused { IfRefused result (λ place reason. NamesRefusedAt text.now place reason) }
@@ -25,7 +25,7 @@ pub fn parse_names(alloc: Global, text: &[u8]) -> Result<CertNames, Refused<Cert
 // No names, or those of the items.
 fn read_names(alloc: Global, text: &[u8]) -> Result<CertNames, Refused<CertRefusal>>
     requires { length text.now < 2 ^ 32 }
-    ensures { Gives result (read_names text.now) }
+    ensures { Answers result (read_names text.now) }
 {
     match text {
         [b'-'] => Ok(CertNames::new(alloc)),
@@ -36,7 +36,7 @@ fn read_names(alloc: Global, text: &[u8]) -> Result<CertNames, Refused<CertRefus
 // The names of the items between the commas.
 fn read_items(alloc: Global, text: &[u8]) -> Result<CertNames, Refused<CertRefusal>>
     requires { length text.now < 2 ^ 32 }
-    ensures { Gives result (read_items 0 (items_of text.now)) }
+    ensures { Answers result (read_items 0 (items_of text.now)) }
 {
     let mut names = CertNames::new(alloc);
     let mut place = 0;

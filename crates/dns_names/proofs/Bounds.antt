@@ -5,7 +5,7 @@ use Rattle.alt_base.specs.declared.refusal.Refused.{Refused}
 use Rattle.alt_base.specs.declared.refusal.Refused.TheVariants.{NoMemory, At as RefusedThere}
 use Rattle.dns_names.specs.declared.refusal.NameRefusal.{NameRefusal}
 use Rattle.dns_names.specs.declared.refusal.NameRefusal.TheVariants.{LabelTooLong, NameTooLong, Compressed, Short, EmptyLabel, BadEscape, BadByte}
-use Rattle.dns_names.specs.Answers.{IfRefused}
+use Rattle.alt_base.specs.Answers.{IfRefused}
 use Rattle.dns_names.specs.Names.{labels_octets, IsName}
 use Rattle.dns_names.specs.WireGrammar.{SpellsUpTo, GoesOn, WireRefusedAt}
 use Rattle.dns_names.specs.TextParts.{Part, Raw, Quoted, Decimal, part_text, parts_text, dotted, part_of, text_form}

@@ -1,4 +1,4 @@
-pub mod Numbers
+pub mod Bytes
 pub mod WireSteps
 pub mod WireSays
 pub mod WireLoop

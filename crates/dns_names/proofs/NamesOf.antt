@@ -4,24 +4,8 @@ use Rattle.std.proofs.lemmas.List.{length-append, length-map}
 use Rattle.std.proofs.lemmas.Str.Ascii.{lowercase-lowercase, lowercase_is}
 use Rattle.std.specs.Char.{to_ascii_lowercase}
 use Rattle.std.specs.Str.{str_to_ascii_lowercase}
+use Rattle.dns_names.proofs.Bytes.{bytes_front, bytes_back}
 use Rattle.dns_names.specs.Names.{AreBytes, AreNameBytes, IsSized, AreSized, IsLabel, AreLabels, labels_octets, CanBegin, IsName}
-
-pub bytes_of : (xs : List ℕ) → ((i : ℕ) → Fits w8 (get_or xs i 0)) → AreBytes xs
-bytes_of [] h = tt
-bytes_of (b ∷ bs) h = (omega (arith, h 0), bytes_of bs (λ i. h (suc i)))
-
-pub bytes_drop : (n : ℕ) (xs : List ℕ) → AreBytes xs → AreBytes (drop n xs)
-bytes_drop zero xs h = h
-bytes_drop (suc n) [] h = tt
-bytes_drop (suc n) (b ∷ bs) h = bytes_drop n bs h.1
-
-pub bytes_front : (xs ys : List ℕ) → AreBytes (xs ++ ys) → AreBytes xs
-bytes_front [] ys h = tt
-bytes_front (b ∷ bs) ys h = (h.0, bytes_front bs ys h.1)
-
-pub bytes_back : (xs ys : List ℕ) → AreBytes (xs ++ ys) → AreBytes ys
-bytes_back [] ys h = h
-bytes_back (b ∷ bs) ys h = bytes_back bs ys h.1
 
 pub lower_bound : (b : ℕ) → b < 256 → to_ascii_lowercase b < 256
 lower_bound b h = grind (arith, lowercase_is)

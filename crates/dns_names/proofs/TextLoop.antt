@@ -5,7 +5,7 @@ use Rattle.std.specs.Char.{to_ascii_lowercase}
 use Rattle.dns_names.specs.declared.refusal.NameRefusal.{NameRefusal}
 use Rattle.dns_names.specs.declared.token.Token.{Token}
 use Rattle.dns_names.specs.declared.token.Token.TheVariants.{End, Dot, Byte, Stop}
-use Rattle.dns_names.specs.Answers.{refused}
+use Rattle.alt_base.specs.Answers.{refused}
 use Rattle.dns_names.specs.Names.{labels_octets}
 use Rattle.dns_names.specs.TextParts.{part_text}
 use Rattle.dns_names.specs.TextReading.{token_at, label_fault, by_fault, text_ends, is_dot, read_text}

@@ -7,12 +7,12 @@ use Rattle.std.specs.Char.{to_ascii_lowercase, is_ascii_digit, is_ascii_graphic}
 use Rattle.alt_base.specs.declared.refusal.Refused.{Refused}
 use Rattle.alt_base.specs.declared.refusal.Refused.TheVariants.{NoMemory, At as RefusedThere}
 use Rattle.dns_names.specs.declared.refusal.NameRefusal.{NameRefusal}
-use Rattle.dns_names.specs.Answers.{refused, Answers, IfRefused}
+use Rattle.alt_base.specs.Answers.{refused, Answers, IfRefused}
 use Rattle.dns_names.specs.Names.{IsNameByte, AreNameBytes, AreSized, AreLabels, IsName}
 use Rattle.dns_names.specs.TextParts.{Part, Raw, Quoted, Decimal, decimal_value, part_byte, part_lower, IsPart, AreParts, label_of, dotted, AreAllParts, is_special, part_of, text_form}
 use Rattle.dns_names.specs.TextGrammar.{JoinsLabels, SpellsText, TextRefusedAt}
 use Rattle.dns_names.specs.TextReading.{read_text}
-use Rattle.dns_names.proofs.Numbers.{true_eq}
+use Rattle.alt_base.proofs.Numbers.{true_eq}
 use Rattle.dns_names.proofs.NamesOf.{lower_bound, name_begins}
 use Rattle.dns_names.proofs.TextTokens.{clash}
 use Rattle.dns_names.proofs.TextSays.{TextSays, text_says, dotted_push, all_push, all_last, last_of}

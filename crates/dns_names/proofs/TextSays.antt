@@ -10,7 +10,7 @@ use Rattle.dns_names.specs.Names.{labels_octets, CanBegin}
 use Rattle.dns_names.specs.TextParts.{Part, part_text, part_lower, parts_text, IsPart, AreParts, label_of, dotted, AreAllParts}
 use Rattle.dns_names.specs.TextGrammar.{SpellsText, TextGoesOn, IsEmptyLabel, EndsLabel, TextRefusedAt}
 use Rattle.dns_names.specs.TextReading.{TextAnswer, token_at, by_fault, label_ends, read_by, read_tokens, text_ends, is_dot, read_text}
-use Rattle.dns_names.proofs.Numbers.{true_eq, false_eq, false_lt}
+use Rattle.alt_base.proofs.Numbers.{true_eq, false_eq, false_lt}
 use Rattle.dns_names.proofs.WireSteps.{HasRoom}
 use Rattle.dns_names.proofs.WireSays.{begin_push}
 use Rattle.dns_names.proofs.TextTokens.{BeginsPart, StopSays, TokenSays, token_says}

@@ -6,12 +6,12 @@ use Rattle.alt_base.specs.declared.refusal.At.{At}
 use Rattle.dns_names.specs.declared.refusal.NameRefusal.{NameRefusal}
 use Rattle.dns_names.specs.declared.refusal.NameRefusal.TheVariants.{LabelTooLong, NameTooLong, Compressed, Short, EmptyLabel, BadEscape, BadByte}
 use Rattle.dns_names.specs.declared.token.Token.TheVariants.{Byte, Stop}
-use Rattle.dns_names.specs.Answers.{refused}
+use Rattle.alt_base.specs.Answers.{refused}
 use Rattle.dns_names.specs.Names.{AreSized, labels_octets, CanBegin}
 use Rattle.dns_names.specs.TextParts.{Part, Raw, Quoted, Decimal, part_text, part_byte, part_lower, parts_text, IsPart, AreParts, label_of, dotted, AreAllParts}
 use Rattle.dns_names.specs.TextGrammar.{JoinsLabels, SpellsText, TextGoesOn, IsEmptyLabel, EndsLabel, TextRefusedAt, OneTextName}
 use Rattle.dns_names.specs.TextReading.{TextAnswer, label_fault, by_fault, label_ends, is_dot, read_text}
-use Rattle.dns_names.proofs.Numbers.{eq_false, lt_true}
+use Rattle.alt_base.proofs.Numbers.{eq_false, lt_true}
 use Rattle.dns_names.proofs.WireSteps.{HasRoom}
 use Rattle.dns_names.proofs.WireSays.{length_wire, length_octets_push}
 use Rattle.dns_names.proofs.TextTokens.{clash, token_part, token_bad_byte, token_bad_escape, no_dot_slash}

@@ -7,7 +7,7 @@ use Rattle.dns_names.specs.declared.token.Token.{Token}
 use Rattle.dns_names.specs.declared.token.Token.TheVariants.{End, Dot, Byte, Stop}
 use Rattle.dns_names.specs.TextParts.{Part, Raw, Quoted, Decimal, part_text}
 use Rattle.dns_names.specs.TextReading.{TextAnswer, token_at, label_fault, label_ends, read_by, read_tokens, text_ends}
-use Rattle.dns_names.proofs.Numbers.{eq_false, true_eq, false_eq, lt_true, lt_false, true_lt, false_lt}
+use Rattle.alt_base.proofs.Numbers.{eq_false, true_eq, false_eq, lt_true, lt_false, true_lt, false_lt}
 use Rattle.dns_names.proofs.WireSteps.{HasRoom}
 use Rattle.dns_names.proofs.TextTokens.{TokenSays, token_says}
 

@@ -7,7 +7,7 @@ use Rattle.dns_names.specs.declared.token.Token.{Token}
 use Rattle.dns_names.specs.declared.token.Token.TheVariants.{End, Dot, Byte, Stop}
 use Rattle.dns_names.specs.TextParts.{Part, Raw, Quoted, Decimal, part_text, part_byte, decimal_value, IsPart}
 use Rattle.dns_names.specs.TextReading.{is_decimal, decimal_at, escape_at, token_at}
-use Rattle.dns_names.proofs.Numbers.{eq_false, true_eq, false_eq, le_true, true_le}
+use Rattle.alt_base.proofs.Numbers.{eq_false, true_eq, false_eq, le_true, true_le}
 
 -- a backslash with this rest begins no part
 abbrev pub NoPart : List ℕ → Type 0

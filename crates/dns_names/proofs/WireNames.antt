@@ -4,13 +4,14 @@ use Rattle.std.proofs.lemmas.List.{append-nil}
 use Rattle.dns_names.specs.declared.refusal.NameRefusal.{NameRefusal}
 use Rattle.alt_base.specs.declared.refusal.Refused.{Refused}
 use Rattle.alt_base.specs.declared.refusal.Refused.TheVariants.{NoMemory, At as RefusedThere}
-use Rattle.dns_names.specs.Answers.{refused, Answers, IfRefused}
+use Rattle.alt_base.specs.Answers.{refused, Answers, IfRefused}
 use Rattle.dns_names.specs.Names.{AreBytes, labels_octets, wire_form, IsName}
 use Rattle.dns_names.specs.WireGrammar.{SpellsWire, SpellsUpTo, WireRefusedAt}
 use Rattle.dns_names.specs.WireReading.{read_wire}
 use Rattle.dns_names.proofs.WireSays.{Says, wire_says}
 use Rattle.dns_names.proofs.WireSpelled.{spelled_reads}
-use Rattle.dns_names.proofs.NamesOf.{bytes_front, is_name, name_begins, labels_lower}
+use Rattle.dns_names.proofs.NamesOf.{is_name, name_begins, labels_lower}
+use Rattle.dns_names.proofs.Bytes.{bytes_front}
 
 pub read_says : (p q : ℕ) (x : List ℕ) (name : List (List ℕ)) → read_wire p x ≡ Ok (name, q) → SpellsUpTo p x name q
 read_says p q x name e = subst (Says p x) e (wire_says p x)

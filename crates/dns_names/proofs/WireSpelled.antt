@@ -6,7 +6,7 @@ use Rattle.alt_base.specs.declared.refusal.At.{At}
 use Rattle.dns_names.specs.declared.refusal.NameRefusal.{NameRefusal}
 use Rattle.dns_names.specs.declared.refusal.NameRefusal.TheVariants.{LabelTooLong, NameTooLong, Compressed, Short, EmptyLabel, BadEscape, BadByte}
 use Rattle.dns_names.specs.declared.wire.Begins.TheVariants.{Stop, Cut}
-use Rattle.dns_names.specs.Answers.{refused}
+use Rattle.alt_base.specs.Answers.{refused}
 use Rattle.dns_names.specs.Names.{AreSized, labels_octets, wire_form, CanBegin}
 use Rattle.dns_names.specs.WireGrammar.{FrontSpells, SpellsUpTo, GoesOn, Stops, IsStopped, IsCutLabel, WireRefusedAt, OneWireName}
 use Rattle.dns_names.specs.WireReading.{WireAnswer, read_wire}

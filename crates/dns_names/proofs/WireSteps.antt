@@ -7,7 +7,7 @@ use Rattle.dns_names.specs.declared.refusal.NameRefusal.TheVariants.{LabelTooLon
 use Rattle.dns_names.specs.declared.wire.Begins.{Begins}
 use Rattle.dns_names.specs.declared.wire.Begins.TheVariants.{End, Label, Stop, Cut}
 use Rattle.dns_names.specs.WireReading.{WireAnswer, begins_by, begins_with, read_by, read_labels}
-use Rattle.dns_names.proofs.Numbers.{eq_false, true_eq, false_eq, lt_true, lt_false, true_lt, false_lt, le_true, le_false, true_le, false_le}
+use Rattle.alt_base.proofs.Numbers.{eq_false, true_eq, false_eq, lt_true, lt_false, true_lt, false_lt, le_true, le_false, true_le, false_le}
 
 -- the octet n, behind so many octets
 abbrev pub StopsAt : ℕ → ℕ → NameRefusal → Type 0

@@ -1,5 +1,4 @@
 pub mod Names
-pub mod Answers
 pub mod WireGrammar
 pub mod WireReading
 pub mod TextParts

@@ -6,7 +6,7 @@ use Rattle.dns_names.specs.declared.refusal.NameRefusal.{NameRefusal}
 use Rattle.dns_names.specs.declared.refusal.NameRefusal.TheVariants.{LabelTooLong, NameTooLong, EmptyLabel, BadEscape, BadByte}
 use Rattle.dns_names.specs.declared.token.Token.{Token}
 use Rattle.dns_names.specs.declared.token.Token.TheVariants.{End, Dot, Byte, Stop}
-use Rattle.dns_names.specs.Answers.{refused}
+use Rattle.alt_base.specs.Answers.{refused}
 use Rattle.dns_names.specs.Names.{labels_octets}
 use Rattle.dns_names.specs.TextParts.{decimal_value}
 

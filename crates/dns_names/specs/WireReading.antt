@@ -6,7 +6,7 @@ use Rattle.dns_names.specs.declared.refusal.NameRefusal.{NameRefusal}
 use Rattle.dns_names.specs.declared.refusal.NameRefusal.TheVariants.{LabelTooLong, NameTooLong, Compressed, Short}
 use Rattle.dns_names.specs.declared.wire.Begins.{Begins}
 use Rattle.dns_names.specs.declared.wire.Begins.TheVariants.{End, Label, Stop, Cut}
-use Rattle.dns_names.specs.Answers.{refused}
+use Rattle.alt_base.specs.Answers.{refused}
 
 -- the name and the place after it, or a refusal at a place
 abbrev pub WireAnswer : Type 0

@@ -1,5 +1,5 @@
 ghost use Rattle.std.specs.Prelude.{◌≡◌, ◌+◌, ◌++◌, ℕ, List, length, Ok};
-ghost use Rattle.dns_names.specs.Answers.{refused};
+ghost use Rattle.alt_base.specs.Answers.{refused};
 ghost use Rattle.dns_names.specs.Names.{AreBytes, IsName, wire_form};
 ghost use Rattle.dns_names.specs.TextGrammar.{SpellsText, TextRefusedAt, OneTextName};
 ghost use Rattle.dns_names.specs.TextParts.{text_form};

@@ -3,7 +3,7 @@ ghost use Rattle.std.specs.Cmp.{partial_equiv_from_equiv};
 ghost use Rattle.std.specs.Cmp.Lexicographic.{pointwise, lists_equiv, nat_list_eq_equiv, bytes_decides};
 ghost use Rattle.std.specs.Hash.{items_Alike, same_Alike};
 ghost use Rattle.std.specs.Hash as fed;
-ghost use Rattle.dns_names.specs.Answers.{Answers, IfRefused};
+ghost use Rattle.alt_base.specs.Answers.{Answers, IfRefused};
 ghost use Rattle.dns_names.specs.Names.{wire_form, IsName};
 ghost use Rattle.dns_names.specs.TextGrammar.{SpellsText, TextRefusedAt};
 ghost use Rattle.dns_names.specs.TextParts.{text_form};

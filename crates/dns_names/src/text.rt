@@ -1,5 +1,5 @@
 ghost use Rattle.std.specs.Prelude.{false, ◌≡◌, ◌≤◌, ◌<◌, ◌^◌, ◌+◌, length};
-ghost use Rattle.dns_names.specs.Answers.{Answers};
+ghost use Rattle.alt_base.specs.Answers.{Answers};
 ghost use Rattle.dns_names.specs.Names.{labels_octets};
 ghost use Rattle.dns_names.specs.TextReading.{is_dot, label_fault, text_ends, read_text};
 

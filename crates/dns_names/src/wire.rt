@@ -1,6 +1,6 @@
 ghost use Rattle.std.specs.Prelude.{◌≡◌, ◌≤◌, ◌<◌, ◌^◌, ◌+◌, length, take, drop, IfOk};
 ghost use Rattle.std.specs.Str.{str_to_ascii_lowercase};
-ghost use Rattle.dns_names.specs.Answers.{Answers};
+ghost use Rattle.alt_base.specs.Answers.{Answers};
 ghost use Rattle.dns_names.specs.Names.{AreSized, wire_form};
 ghost use Rattle.dns_names.specs.WireReading.{begins_with, read_wire};
 

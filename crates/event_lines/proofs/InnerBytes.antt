@@ -25,7 +25,7 @@ use Rattle.origin_values.proofs.HostTexts.{host_written}
 use Rattle.coalescing.specs.NamesWritten.{name_text, further_text, names_text, IsCertName, AreCertNames, HaveText}
 use Rattle.coalescing.specs.declared.cert_name.CertName.{CertName}
 use Rattle.coalescing.specs.declared.cert_name.CertName.TheVariants.{Exact, Wild, Ip}
-use Rattle.event_lines.proofs.Numbers.{both}
+use Rattle.alt_base.proofs.Conjunctions.{both}
 use Rattle.event_lines.proofs.Spaces.{is_inner, IsInner, same_from_test}
 
 and_from : (a b : Bool) → a ≡ true → b ≡ true → (a && b) ≡ true

@@ -7,7 +7,8 @@ use Rattle.std.specs.Str.Parse.{AllDigits, IsNumeral, digits_value}
 use Rattle.origin_values.proofs.Names.{digits_pass}
 use Rattle.event_lines.specs.Fields.{is_number, number_within, number_of, unless_zero, port_of, most_port}
 use Rattle.event_lines.specs.LineGrammar.{NoLeadingZero, SpellsNumber, SpellsPort}
-use Rattle.event_lines.proofs.Numbers.{both, le_from_test, test_from_le, digit_code, value_of_digit}
+use Rattle.event_lines.proofs.Numbers.{le_from_test, test_from_le, digit_code, value_of_digit}
+use Rattle.alt_base.proofs.Conjunctions.{both}
 
 and_from : (a b : Bool) → a ≡ true → b ≡ true → (a && b) ≡ true
 and_from a b h k = rw (h, k) refl

@@ -5,11 +5,7 @@ use Rattle.std.specs.List.{list_all}
 use Rattle.std.specs.Char.{is_ascii_digit, digit_value}
 use Rattle.std.specs.Str.Parse.{digits_value_after}
 use Rattle.event_lines.specs.Fields.{number_within}
-
-pub both : (a b : Bool) → (a && b) ≡ true → (a ≡ true) × (b ≡ true)
-both true true h = (refl, refl)
-both true false h = cc
-both false b h = cc
+use Rattle.alt_base.proofs.Conjunctions.{both}
 
 pub le_from_test : (a b : ℕ) → nat_le a b ≡ true → a ≤ b
 le_from_test a b h = grind arith

@@ -5,7 +5,7 @@ use Rattle.event_lines.specs.Parts.{Part, is_space, before_space, from_space, Re
 use Rattle.event_lines.specs.LineGrammar.{NoSpace, spaced}
 use Rattle.event_lines.specs.LineRefusals.{EndsWord, IsFront, IsNext}
 use Rattle.event_lines.specs.declared.refusal.LineRefusal.{LineRefusal}
-use Rattle.event_lines.proofs.Numbers.{both}
+use Rattle.alt_base.proofs.Conjunctions.{both}
 use Rattle.event_lines.proofs.Words.{word_split}
 
 pub same_from_test : (a b : ℕ) → nat_eq a b ≡ true → a ≡ b

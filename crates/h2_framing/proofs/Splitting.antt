@@ -9,18 +9,7 @@ use Rattle.h2_framing.specs.declared.head.Head.{Head}
 use Rattle.h2_framing.specs.declared.frame.Frame.{Frame}
 use Rattle.h2_framing.specs.Frames.{head_of, frame_of, IsFrame, AreFrames, LacksPayload, IsTooLarge, IsUnfinished, IsRest, Split, Splits, octets_of}
 use Rattle.h2_framing.specs.Streams.{Beginning, NoWholeFrame, AboveLimit, WholeFrame, beginning_of, no_frames, with_frame, split_by, split_within, split_of, frames_of, rest_of, too_large_of}
-
-lt_true : (a b : ℕ) → a < b → nat_lt a b ≡ true
-lt_true a b h = grind (arith, nat_tests)
-
-lt_false : (a b : ℕ) → b ≤ a → nat_lt a b ≡ false
-lt_false a b h = grind (arith, nat_tests)
-
-true_lt : (a b : ℕ) → nat_lt a b ≡ true → a < b
-true_lt a b h = grind (arith, nat_tests)
-
-false_lt : (a b : ℕ) → nat_lt a b ≡ false → b ≤ a
-false_lt a b h = grind (arith, nat_tests)
+use Rattle.alt_base.proofs.Numbers.{lt_true, lt_false, true_lt, false_lt}
 
 same_head : (l l' k k' f f' s s' : ℕ) → l ≡ l' → k ≡ k' → f ≡ f' → s ≡ s' → (let a : Head = record { length = l; kind = k; flags = f; stream = s } in a) ≡ (let b : Head = record { length = l'; kind = k'; flags = f'; stream = s' } in b)
 same_head l l' k k' f f' s s' a b c d = cc

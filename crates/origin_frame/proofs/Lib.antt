@@ -1,4 +1,3 @@
-pub mod AsciiOrigins
 pub mod Payloads
 pub mod PayloadTexts
 pub mod Steps

@@ -5,27 +5,17 @@ use Rattle.std.proofs.lemmas.Bool.Decides.{nat_tests}
 use Rattle.alt_base.specs.declared.refusal.At.{At}
 use Rattle.alt_base.specs.declared.refusal.Refused.{Refused}
 use Rattle.alt_base.specs.declared.refusal.Refused.TheVariants as Refusal
-use Rattle.origin_values.specs.Gives.{Gives, IfRefused}
+use Rattle.alt_base.specs.Answers.{Answers, IfRefused}
 use Rattle.origin_values.specs.declared.origin.Origin.{Origin}
 use Rattle.origin_frame.specs.declared.listed.Listed.{Listed}
 use Rattle.origin_frame.specs.declared.refusal.OriginFrameRefusal.{OriginFrameRefusal}
 use Rattle.origin_frame.specs.declared.refusal.OriginFrameRefusal.TheVariants.{NotStreamZero, Flags, EntryPast}
 use Rattle.origin_frame.specs.PayloadGrammar.{BeginsWithEntry, AreEntries, AreListed, NoFlags, SpellsListed, IsPast, ListedRefusedAt, OneListed}
-use Rattle.origin_frame.specs.PayloadReading.{ascii_origin, Answer, refused, entry_onto, read_entry, read_within, read_entries, read_listed}
+use Rattle.origin_frame.specs.PayloadReading.{Answer, refused, entry_onto, read_entry, read_within, read_entries, read_listed}
 use Rattle.origin_frame.specs.PayloadWritten.{AreOrigins}
-use Rattle.origin_frame.proofs.AsciiOrigins.{ascii_spelled, ascii_read, ascii_none, none_ascii}
-
-lt_true : (a b : ℕ) → a < b → nat_lt a b ≡ true
-lt_true a b h = grind (arith, nat_tests)
-
-lt_false : (a b : ℕ) → b ≤ a → nat_lt a b ≡ false
-lt_false a b h = grind (arith, nat_tests)
-
-true_lt : (a b : ℕ) → nat_lt a b ≡ true → a < b
-true_lt a b h = grind (arith, nat_tests)
-
-false_lt : (a b : ℕ) → nat_lt a b ≡ false → b ≤ a
-false_lt a b h = grind (arith, nat_tests)
+use Rattle.origin_values.specs.AsciiReading.{ascii_origin}
+use Rattle.origin_values.proofs.AsciiOrigins.{ascii_spelled, ascii_read, ascii_none, none_ascii}
+use Rattle.alt_base.proofs.Numbers.{lt_true, lt_false, true_lt, false_lt}
 
 -- what the reading of entries at a place says
 record EntriesAre (octets : List ℕ) (listed : Listed) : Type 0 where
@@ -256,7 +246,7 @@ one_listed_of stream flags payload = record {
     clash listed at e = cc
 
 -- what a call answers, in the grammar's words
-pub answer_says : (stream flags : ℕ) (payload : List ℕ) (r : Result Listed (Refused OriginFrameRefusal)) → Gives r (read_listed stream flags payload)
+pub answer_says : (stream flags : ℕ) (payload : List ℕ) (r : Result Listed (Refused OriginFrameRefusal)) → Answers r (read_listed stream flags payload)
     → IfOk r (λ listed. SpellsListed stream flags payload listed) × IfOk r (λ listed. AreOrigins listed.origins) × IfRefused r (λ place reason. ListedRefusedAt stream flags payload place reason)
 answer_says stream flags payload (Ok listed) h =
     let spelled = listed_spelled stream flags payload listed h in

@@ -6,7 +6,8 @@ use Rattle.origin_values.specs.declared.origin.Origin.{Origin}
 use Rattle.origin_frame.specs.declared.listed.Listed.{Listed}
 use Rattle.origin_frame.specs.declared.refusal.OriginFrameRefusal.TheVariants.{EntryPast}
 use Rattle.origin_frame.specs.Entries.{entry_of, with_last}
-use Rattle.origin_frame.specs.PayloadReading.{ascii_origin, Answer, refused, nothing_listed, entry_onto, read_within, read_entries}
+use Rattle.origin_values.specs.AsciiReading.{ascii_origin}
+use Rattle.origin_frame.specs.PayloadReading.{Answer, refused, nothing_listed, entry_onto, read_within, read_entries}
 
 false_lt : (a b : ℕ) → nat_lt a b ≡ false → b ≤ a
 false_lt a b h = grind (arith, nat_tests)

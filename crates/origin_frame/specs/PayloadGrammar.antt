@@ -1,6 +1,6 @@
 -- The payload of an ORIGIN frame (RFC 8336 2.1), beside what it lists, by how it splits; and the table of refusals.
 use Rattle.std.specs.Prelude.{◌≡◌, ◌≢◌, ◌⊎◌, ℕ, ◌+◌, ◌*◌, ◌<◌, List, [], ◌∷◌, ◌++◌, length, bit_and}
-use Rattle.origin_values.specs.AsciiOrigin.{SpellsAscii}
+use Rattle.origin_values.specs.AsciiOrigin.{SpellsAscii, IsNoOrigin}
 use Rattle.origin_values.specs.declared.origin.Origin.{Origin}
 use Rattle.origin_frame.specs.declared.listed.Listed.{Listed}
 use Rattle.origin_frame.specs.declared.refusal.OriginFrameRefusal.{OriginFrameRefusal}
@@ -17,10 +17,6 @@ pub record BeginsWithEntry (octets entry rest : List ℕ) : Type 0 where
 abbrev pub AreEntries : List ℕ → List (List ℕ) → Type 0
 AreEntries octets [] = octets ≡ []
 AreEntries octets (entry ∷ entries) = (rest : List ℕ) × BeginsWithEntry octets entry rest × AreEntries rest entries
-
--- no origin is written as the entry
-abbrev pub IsNoOrigin : List ℕ → Type 0
-IsNoOrigin entry = (origin : Origin) → ¬ (SpellsAscii entry origin)
 
 -- the origins that entries are the ASCII text of (RFC 6454 6.2), in order, and the number of the entries that are no
 -- origin's

@@ -1,23 +1,11 @@
 -- Reading the payload of an ORIGIN frame.
 use Rattle.std.specs.Prelude.{ℕ, zero, suc, ◌+◌, ◌*◌, bit_and, nat_eq, nat_lt, List, [], ◌∷◌, length, take, drop, Option, None, Some, Result, Ok, Err, if◌then◌else◌}
-use Rattle.std.specs.Cmp.Lexicographic.{pointwise}
 use Rattle.alt_base.specs.declared.refusal.At.{At}
-use Rattle.origin_values.specs.OriginReading.{read_origin}
-use Rattle.origin_values.specs.Written.{origin_text}
+use Rattle.origin_values.specs.AsciiReading.{ascii_origin}
 use Rattle.origin_values.specs.declared.origin.Origin.{Origin}
-use Rattle.origin_values.specs.declared.refusal.OriginRefusal.{OriginRefusal}
 use Rattle.origin_frame.specs.declared.listed.Listed.{Listed}
 use Rattle.origin_frame.specs.declared.refusal.OriginFrameRefusal.{OriginFrameRefusal}
 use Rattle.origin_frame.specs.declared.refusal.OriginFrameRefusal.TheVariants.{NotStreamZero, Flags, EntryPast}
-
--- the origin that was read, where it is written as the text
-abbrev pub if_written_as : List ℕ → Result Origin (At OriginRefusal) → Option Origin
-if_written_as text (Ok origin) = if pointwise nat_eq (origin_text origin) text then Some origin else None
-if_written_as text (Err at) = None
-
--- the origin whose ASCII text this is
-unfoldable pub ascii_origin : List ℕ → Option Origin
-ascii_origin text = if_written_as text (read_origin text)
 
 abbrev pub Answer : Type 0
 Answer = Result Listed (At OriginFrameRefusal)

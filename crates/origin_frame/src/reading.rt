@@ -1,7 +1,8 @@
 ghost use Rattle.std.specs.Prelude.{◌≡◌, ◌<◌, ◌≤◌, ◌+◌, ◌*◌, ◌^◌, length, IfOk, OnOk, option_map};
-ghost use Rattle.origin_values.specs.Gives.{Gives, IfRefused};
+ghost use Rattle.alt_base.specs.Answers.{Answers, IfRefused};
 ghost use Rattle.origin_frame.specs.PayloadGrammar.{SpellsListed, ListedRefusedAt};
-ghost use Rattle.origin_frame.specs.PayloadReading.{ascii_origin, read_entries, read_listed};
+ghost use Rattle.origin_values.specs.AsciiReading.{ascii_origin};
+ghost use Rattle.origin_frame.specs.PayloadReading.{read_entries, read_listed};
 ghost use Rattle.origin_frame.specs.PayloadWritten.{AreOrigins};
 ghost use Rattle.origin_frame.specs.Entries.{entry_of, with_last};
 ghost use Rattle.origin_frame.specs.declared.listed.Listed.{Listed};
@@ -26,7 +27,7 @@ pub fn parse(
     payload: &[u8],
 ) -> Result<Listed, Refused<OriginFrameRefusal>>
     requires { length payload.now < 2 ^ 32 }
-    ensures reading { Gives result (read_listed stream flags payload.now) }
+    ensures reading { Answers result (read_listed stream flags payload.now) }
     ensures ok { IfOk result (λ listed. SpellsListed stream flags payload.now listed) }
     ensures valid { IfOk result (λ listed. AreOrigins listed.origins) }
     ensures refused { IfRefused result (λ place reason. ListedRefusedAt stream flags payload.now place reason) }
@@ -41,7 +42,7 @@ fn read_listed(
     payload: &[u8],
 ) -> Result<Listed, Refused<OriginFrameRefusal>>
     requires { length payload.now < 2 ^ 32 }
-    ensures { Gives result (read_listed stream flags payload.now) }
+    ensures { Answers result (read_listed stream flags payload.now) }
 {
     if stream != 0 {
         return Err(Refused::At {
@@ -61,7 +62,7 @@ fn read_listed(
 // What the entries of a payload give.
 fn read_entries(alloc: Global, payload: &[u8]) -> Result<Listed, Refused<OriginFrameRefusal>>
     requires { length payload.now < 2 ^ 32 }
-    ensures { Gives result (read_entries payload.now) }
+    ensures { Answers result (read_entries payload.now) }
 {
     let mut listed = Listed {
         origins: Origins::new(alloc),

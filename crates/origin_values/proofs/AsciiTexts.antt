@@ -11,7 +11,7 @@ use Rattle.alt_base.specs.declared.refusal.Refused.{Refused}
 use Rattle.alt_base.specs.declared.refusal.Refused.TheVariants as refused
 use Rattle.origin_values.specs.AsciiOrigin.{SpellsAscii}
 use Rattle.origin_values.specs.DefaultPort.{default_port_of}
-use Rattle.origin_values.specs.Gives.{Gives, IfRefused}
+use Rattle.alt_base.specs.Answers.{Answers, IfRefused}
 use Rattle.origin_values.specs.OriginGrammar.{SpellsOrigin, OriginRefusedAt}
 use Rattle.origin_values.specs.OriginReading.{read_origin}
 use Rattle.origin_values.specs.Valid.{IsOrigin}
@@ -101,18 +101,18 @@ pub record Says (text : List ℕ) (r : Result Origin (Refused OriginRefusal)) : 
   pub valid : IfOk r (λ origin. IsOrigin origin)
   pub at_place : IfRefused r (λ place reason. OriginRefusedAt text place reason)
 
-pub parse_says : (text : List ℕ) (r : Result Origin (Refused OriginRefusal)) → Gives r (read_origin text) → Says text r
+pub parse_says : (text : List ℕ) (r : Result Origin (Refused OriginRefusal)) → Answers r (read_origin text) → Says text r
 parse_says text (Ok origin) h = let spells = origin_sound text origin h in record { ok = spells; valid = origin_valid text origin spells; at_place = tt }
 parse_says text (Err refused.NoMemory) h = record { ok = tt; valid = tt; at_place = tt }
 parse_says text (Err (refused.At place reason)) h = record { ok = tt; valid = tt; at_place = origin_refusal text place reason h }
 
 -- what the result was is what the reading gives
-pub gives_ok : (text : List ℕ) (r : Result Origin (Refused OriginRefusal)) (origin : Origin) → Gives r (read_origin text) → r ≡ Ok origin → read_origin text ≡ Ok origin
-gives_ok text r origin h is = subst (λ x. Gives x (read_origin text)) is h
+pub gives_ok : (text : List ℕ) (r : Result Origin (Refused OriginRefusal)) (origin : Origin) → Answers r (read_origin text) → r ≡ Ok origin → read_origin text ≡ Ok origin
+gives_ok text r origin h is = subst (λ x. Answers x (read_origin text)) is h
 
 pub gives_at : (text : List ℕ) (r : Result Origin (Refused OriginRefusal)) (e : Refused OriginRefusal) (place : ℕ) (reason : OriginRefusal)
-    → Gives r (read_origin text) → r ≡ Err e → e ≡ refused.At place reason → read_origin text ≡ Err (record { place = place; reason = reason })
-gives_at text r e place reason h is at_is = subst (λ x. Gives x (read_origin text)) (is ∙ ap err_of at_is) h
+    → Answers r (read_origin text) → r ≡ Err e → e ≡ refused.At place reason → read_origin text ≡ Err (record { place = place; reason = reason })
+gives_at text r e place reason h is at_is = subst (λ x. Answers x (read_origin text)) (is ∙ ap err_of at_is) h
   where
     err_of : Refused OriginRefusal → Result Origin (Refused OriginRefusal)
     err_of x = Err x

@@ -2,11 +2,6 @@
 use Rattle.std.proofs.Common.{◌≡◌, ◌≢◌, ℕ, ◌<◌, ◌≤◌, Bool, true, false, ◌&&◌, nat_eq, nat_lt, nat_le, List, [], ◌∷◌, length, map, refl, arith}
 use Rattle.std.specs.Char.{to_ascii_lowercase}
 
-pub both : (a b : Bool) → (a && b) ≡ true → (a ≡ true) × (b ≡ true)
-both true true h = (refl, refl)
-both true false h = cc
-both false b h = cc
-
 pub and_from : (a b : Bool) → a ≡ true → b ≡ true → (a && b) ≡ true
 and_from a b h k = rw (h, k) refl
 

@@ -1,5 +1,6 @@
 pub mod AddressTexts
 pub mod Addresses
+pub mod AsciiOrigins
 pub mod AsciiTexts
 pub mod HostTexts
 pub mod Comparisons

@@ -10,7 +10,8 @@ use Rattle.std.proofs.lemmas.Fmt.{decimal_is_IsNumeral, length-decimal-le}
 use Rattle.alt_base.specs.Classes.{in_ranges, host_name_class}
 use Rattle.origin_values.specs.HostGrammar.{AreLabels, SpellsName}
 use Rattle.origin_values.specs.HostReading.{are_labels, is_name, read_name}
-use Rattle.origin_values.proofs.Comparisons.{both, and_from, and_false, same_from_test, lt_from_test, test_from_lt, le_from_test, test_from_le}
+use Rattle.origin_values.proofs.Comparisons.{and_from, and_false, same_from_test, lt_from_test, test_from_lt, le_from_test, test_from_le}
+use Rattle.alt_base.proofs.Conjunctions.{both}
 
 -- a byte of a label
 abbrev of_label : ℕ → Bool

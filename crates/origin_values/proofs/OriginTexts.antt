@@ -23,7 +23,8 @@ use Rattle.origin_values.proofs.AddressTexts.{at_each, groups_of}
 use Rattle.origin_values.proofs.HostTexts.{host_valid, host_written}
 use Rattle.origin_values.proofs.Names.{name_labels}
 use Rattle.origin_values.proofs.Origins.{origin_complete}
-use Rattle.origin_values.proofs.Comparisons.{both, same_from_test, test_from_other, test_from_lt, le_from_test}
+use Rattle.origin_values.proofs.Comparisons.{same_from_test, test_from_other, test_from_lt, le_from_test}
+use Rattle.alt_base.proofs.Conjunctions.{both}
 
 or_cases : (a b : Bool) → (a || b) ≡ true → (a ≡ true) ⊎ (b ≡ true)
 or_cases true b h = inl refl

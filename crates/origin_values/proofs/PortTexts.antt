@@ -14,7 +14,8 @@ use Rattle.origin_values.specs.declared.refusal.OriginRefusal.{OriginRefusal}
 use Rattle.origin_values.specs.declared.refusal.OriginRefusal.TheVariants.{BadScheme, BadHost, BadPort, Trailing}
 use Rattle.origin_values.proofs.Names.{digits_pass}
 use Rattle.origin_values.proofs.Ports.{digit_code, value_of_digit}
-use Rattle.origin_values.proofs.Comparisons.{both, and_false, same_from_test, other_from_test, test_from_other, lt_from_test, ge_from_test, test_from_lt, test_from_ge}
+use Rattle.origin_values.proofs.Comparisons.{and_false, same_from_test, other_from_test, test_from_other, lt_from_test, ge_from_test, test_from_lt, test_from_ge}
+use Rattle.alt_base.proofs.Conjunctions.{both}
 
 plus_one : (n : ℕ) → n + 1 ≡ suc n
 plus_one n = omega arith

@@ -6,7 +6,8 @@ use Rattle.std.specs.List.{list_all}
 use Rattle.std.specs.Char.{is_ascii_digit, digit_value}
 use Rattle.std.specs.Str.Parse.{digits_value_after}
 use Rattle.origin_values.specs.OriginReading.{digits_before}
-use Rattle.origin_values.proofs.Comparisons.{both, test_from_lt, test_from_ge, le_from_test}
+use Rattle.origin_values.proofs.Comparisons.{test_from_lt, test_from_ge, le_from_test}
+use Rattle.alt_base.proofs.Conjunctions.{both}
 
 -- a digit's code and value
 pub digit_code : (b : ℕ) → is_ascii_digit b ≡ true → (48 ≤ b) × (b ≤ 57)

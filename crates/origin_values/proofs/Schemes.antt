@@ -6,7 +6,8 @@ use Rattle.origin_values.specs.OriginReading.{begins, read_rest, read_origin, re
 use Rattle.origin_values.specs.declared.scheme.Scheme.{Scheme}
 use Rattle.origin_values.specs.declared.scheme.Scheme.TheVariants.{Http, Https}
 use Rattle.origin_values.specs.declared.refusal.OriginRefusal.TheVariants.{BadScheme}
-use Rattle.origin_values.proofs.Comparisons.{both, same_from_test, length_lower}
+use Rattle.origin_values.proofs.Comparisons.{same_from_test, length_lower}
+use Rattle.alt_base.proofs.Conjunctions.{both}
 
 -- whether a list begins with another
 abbrev starts : List ℕ → List ℕ → Bool

@@ -3,9 +3,9 @@ pub mod Equality
 pub mod Written
 pub mod HostGrammar
 pub mod HostReading
-pub mod Gives
 pub mod Valid
 pub mod OriginGrammar
 pub mod OriginReading
 pub mod AsciiOrigin
+pub mod AsciiReading
 pub mod ZeroRuns

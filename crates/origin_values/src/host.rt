@@ -1,6 +1,6 @@
 ghost use Rattle.std.specs.Prelude.{◌≡◌, ◌++◌, IfOk, codes, string_bytes, option_map};
 ghost use Rattle.origin_values.specs.Equality.{host_eq};
-ghost use Rattle.origin_values.specs.Gives.{Gives, IfRefused};
+ghost use Rattle.alt_base.specs.Answers.{Answers, IfRefused};
 ghost use Rattle.origin_values.specs.HostGrammar.{SpellsHost, HostRefusedAt};
 ghost use Rattle.origin_values.specs.HostReading.{read_closed, read_name, read_host, host_or_refusal};
 ghost use Rattle.origin_values.specs.Valid.{IsHost};
@@ -38,7 +38,7 @@ impl Host {
     /// (RFC 3986 3.2.2). The letters of a name are made lower case. `BadHost` at place 0 comes where the text spells
     /// no host. Only a name takes memory.
     pub fn parse(alloc: Global, text: &[u8]) -> Result<Host, Refused<HostRefusal>>
-        ensures reading { Gives result (host_or_refusal (read_host text.now)) }
+        ensures reading { Answers result (host_or_refusal (read_host text.now)) }
         ensures ok { IfOk result (λ host. SpellsHost text.now host) }
         ensures valid { IfOk result (λ host. IsHost host) }
         ensures refused { IfRefused result (λ place reason. HostRefusedAt text.now place reason) }

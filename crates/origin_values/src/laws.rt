@@ -1,8 +1,9 @@
-ghost use Rattle.std.specs.Prelude.{◌≡◌, ◌≤◌, ℕ, List, true, ◌↔◌};
+ghost use Rattle.std.specs.Prelude.{◌≡◌, ◌≤◌, ℕ, List, true, ◌↔◌, Some, None};
 ghost use Rattle.origin_values.specs.Equality.{scheme_eq, proto_eq, addr_eq, host_eq, origin_eq};
 ghost use Rattle.origin_values.specs.HostGrammar.{SpellsAddr, SpellsHost, HostRefusedAt, OneHost};
 ghost use Rattle.origin_values.specs.HostReading.{read_addr, read_host, host_or_refusal};
-ghost use Rattle.origin_values.specs.AsciiOrigin.{SpellsAscii};
+ghost use Rattle.origin_values.specs.AsciiOrigin.{SpellsAscii, IsNoOrigin};
+ghost use Rattle.origin_values.specs.AsciiReading.{ascii_origin};
 ghost use Rattle.origin_values.specs.OriginGrammar.{SpellsOrigin, OriginRefusedAt, OneOrigin};
 ghost use Rattle.origin_values.specs.OriginReading.{read_origin};
 ghost use Rattle.origin_values.specs.Valid.{IsAddr, IsHost, IsOrigin};
@@ -97,4 +98,11 @@ pub fn written_origins_are_read_back()
 pub fn one_ascii_origin()
     ensures one { (text : List ℕ) (a b : Origin) → SpellsAscii text a → SpellsAscii text b → a ≡ b }
     ensures spelled { (text : List ℕ) (origin : Origin) → SpellsAscii text origin → SpellsOrigin text origin }
+{}
+
+/// What is read as an origin's ASCII text is one, what is one is read, and what isn't read is no origin's.
+pub fn ascii_origins_are_read()
+    ensures read { (text : List ℕ) (origin : Origin) → ascii_origin text ≡ Some origin → SpellsAscii text origin }
+    ensures spelled { (text : List ℕ) (origin : Origin) → SpellsAscii text origin → ascii_origin text ≡ Some origin }
+    ensures none { (text : List ℕ) → (ascii_origin text ≡ None) ↔ IsNoOrigin text }
 {}

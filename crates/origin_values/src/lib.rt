@@ -18,9 +18,9 @@ mod tests;
 pub use address::{Addr, same_address};
 pub use host::{Host, same_host};
 pub use laws::{
-    addresses_are_read, hosts_are_read, longest_run_of_zeros_is_shortened, one_ascii_origin,
-    one_host, one_origin, one_value_where_equal, origins_are_read, written_addresses_are_read_back,
-    written_hosts_are_read_back, written_origins_are_read_back,
+    addresses_are_read, ascii_origins_are_read, hosts_are_read, longest_run_of_zeros_is_shortened,
+    one_ascii_origin, one_host, one_origin, one_value_where_equal, origins_are_read,
+    written_addresses_are_read_back, written_hosts_are_read_back, written_origins_are_read_back,
 };
 pub use origin::{Origin, same_origin};
 pub use proto::{Proto, same_proto};

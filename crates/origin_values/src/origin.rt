@@ -1,7 +1,7 @@
 ghost use Rattle.std.specs.Prelude.{◌≡◌, ◌++◌, ◌+◌, ◌<◌, ◌≤◌, ◌^◌, length, IfOk, OnOk};
 ghost use Rattle.std.specs.Bool.{OnTrue};
 ghost use Rattle.origin_values.specs.Equality.{origin_eq};
-ghost use Rattle.origin_values.specs.Gives.{Gives, IfRefused};
+ghost use Rattle.alt_base.specs.Answers.{Answers, IfRefused};
 ghost use Rattle.origin_values.specs.AsciiOrigin.{SpellsAscii};
 ghost use Rattle.origin_values.specs.OriginGrammar.{SpellsOrigin, OriginRefusedAt};
 ghost use Rattle.origin_values.specs.Valid.{IsOrigin};
@@ -45,7 +45,7 @@ impl Origin {
     /// after the colon where the digits' value is 0 or above 65535, and `Trailing` at the first byte left.
     pub fn parse(alloc: Global, text: &[u8]) -> Result<Origin, Refused<OriginRefusal>>
         requires { length text.now < 2 ^ 32 }
-        ensures reading { Gives result (read_origin text.now) }
+        ensures reading { Answers result (read_origin text.now) }
         ensures ok { IfOk result (λ origin. SpellsOrigin text.now origin) }
         ensures valid { IfOk result (λ origin. IsOrigin origin) }
         ensures refused { IfRefused result (λ place reason. OriginRefusedAt text.now place reason) }
@@ -92,7 +92,7 @@ impl Origin {
 #[tactic(auto, unfolding(crate::specs::OriginReading::read_origin))]
 fn read_origin(alloc: Global, text: &[u8]) -> Result<Origin, Refused<OriginRefusal>>
     requires { length text.now < 2 ^ 32 }
-    ensures { Gives result (read_origin text.now) }
+    ensures { Answers result (read_origin text.now) }
 {
     if begins(b"http://", text) {
         read_rest(alloc, Scheme::Http, 7, &text[7..])
@@ -131,7 +131,7 @@ fn read_rest(
     rest: &[u8],
 ) -> Result<Origin, Refused<OriginRefusal>>
     requires { place + length rest.now < 2 ^ 32 }
-    ensures { Gives result (read_rest scheme place rest.now) }
+    ensures { Answers result (read_rest scheme place rest.now) }
 {
     let end = match host_end(rest) {
         Some(end) => end,
@@ -151,7 +151,7 @@ fn read_port(
     rest: &[u8],
 ) -> Result<Origin, Refused<OriginRefusal>>
     requires { place + length rest.now < 2 ^ 32 }
-    ensures { Gives result (read_port scheme host place rest.now) }
+    ensures { Answers result (read_port scheme host place rest.now) }
 {
     match rest {
         [] => Ok(Origin {
@@ -172,7 +172,7 @@ fn read_digits(
     rest: &[u8],
 ) -> Result<Origin, Refused<OriginRefusal>>
     requires { place + length rest.now < 2 ^ 32 }
-    ensures { Gives result (read_digits scheme host place (digits_before rest.now) rest.now) }
+    ensures { Answers result (read_digits scheme host place (digits_before rest.now) rest.now) }
 {
     let count = digits_before(rest);
     if count == 0 {
@@ -192,7 +192,7 @@ fn at_end(
     place: u32,
     rest: &[u8],
 ) -> Result<Origin, Refused<OriginRefusal>>
-    ensures { Gives result (at_end (record { scheme = scheme; host = host; port = port }) place rest.now) }
+    ensures { Answers result (at_end (record { scheme = scheme; host = host; port = port }) place rest.now) }
 {
     if rest.is_empty() {
         Ok(Origin { scheme, host, port })

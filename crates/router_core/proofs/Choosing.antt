@@ -27,6 +27,7 @@ use Rattle.router_core.specs.WaitingRequests.{is_tried}
 use Rattle.router_core.specs.Tables.{Hold}
 use Rattle.router_core.specs.Choices.{is_free, otherwise, by_connection, choice, listed}
 use Rattle.router_core.proofs.Listing.{filter_map, find_first, first_map, filter_all, filter_none, any_filter, none_left_map}
+use Rattle.alt_base.proofs.Conjunctions.{both}
 
 or_none : (b : Bool) → (b || false) ≡ b
 or_none true = refl
@@ -35,10 +36,6 @@ or_none false = refl
 and_none : (b : Bool) → (b && false) ≡ false
 and_none true = refl
 and_none false = refl
-
-both : (a b : Bool) → (a && b) ≡ true → (a ≡ true) × (b ≡ true)
-both true b e = (refl, e)
-both false b e = absurd (true≢false (sym e))
 
 -- authority, of an open connection as a router keeps it
 auth_of : (j : Journal) (now : ℕ) (o : Origin) (c : Connection) → is_open j c ≡ true → is_authoritative j c o now ≡ authorises (kept_of j c) o

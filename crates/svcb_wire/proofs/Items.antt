@@ -3,7 +3,7 @@ use Rattle.std.proofs.Common.{◌≡◌, ℕ, zero, suc, ◌≤◌, List, [], �
 use Rattle.std.proofs.lemmas.List.{append_assoc, append-nil, length-drop}
 use Rattle.dns_names.specs.Names.{AreBytes}
 use Rattle.svcb_wire.specs.ValueReading.{First, by_first, items_behind, read_items}
-use Rattle.svcb_wire.proofs.Bytes.{bytes_drop}
+use Rattle.dns_names.proofs.Bytes.{bytes_drop}
 
 abbrev pub Items : Type 0
 Items = List (List ℕ)

@@ -6,7 +6,7 @@ use Rattle.dns_names.specs.Names.{AreBytes}
 use Rattle.svcb_wire.specs.Octets.{keys_octets}
 use Rattle.svcb_wire.specs.Forms.{AreRising}
 use Rattle.svcb_wire.specs.ValueReading.{keys_behind}
-use Rattle.svcb_wire.proofs.Numbers.{lt_true, lt_false, true_lt}
+use Rattle.alt_base.proofs.Numbers.{lt_true, lt_false, true_lt}
 use Rattle.svcb_wire.proofs.Pairs.{pair_reads, pair_fits, pair_back}
 
 -- the keys that were read, behind some

@@ -1,5 +1,3 @@
-pub mod Numbers
-pub mod Bytes
 pub mod Pairs
 pub mod Writing
 pub mod Keys

@@ -9,7 +9,7 @@ use Rattle.svcb_wire.specs.Octets.{key_of, param_octets, params_octets}
 use Rattle.svcb_wire.specs.Forms.{AreParams}
 use Rattle.svcb_wire.specs.RecordReading.{ParamAnswer, ParamsAnswer, first_param, by_param, params_behind, read_params}
 use Rattle.svcb_wire.specs.RecordGrammar.{next_key}
-use Rattle.svcb_wire.proofs.Bytes.{bytes_drop}
+use Rattle.dns_names.proofs.Bytes.{bytes_drop}
 use Rattle.svcb_wire.proofs.ParamSteps.{IsFirstParam, ParamStops, ParamSays, param_says, param_reads, param_takes}
 
 -- the parameters that were read, behind some

@@ -7,14 +7,14 @@ use Rattle.svcb_wire.specs.declared.param.Param.{Param}
 use Rattle.svcb_wire.specs.declared.param.Param.TheVariants.{Mandatory, Alpn, NoDefaultAlpn, Port, V4Hint, Other, V6Hint}
 use Rattle.svcb_wire.specs.declared.refusal.WireRefusal.{WireRefusal}
 use Rattle.svcb_wire.specs.declared.refusal.WireRefusal.TheVariants.{Short, BadTarget, KeyOrder, ParamPast, BadValue, TooLong}
-use Rattle.svcb_wire.specs.Answers.{refused}
+use Rattle.alt_base.specs.Answers.{refused}
 use Rattle.svcb_wire.specs.Octets.{key_of, value_of, param_octets}
 use Rattle.svcb_wire.specs.Forms.{HasForm, IsParam}
 use Rattle.svcb_wire.specs.ValueReading.{read_value}
 use Rattle.svcb_wire.specs.RecordReading.{ParamAnswer, by_value, param_by_head, first_param}
 use Rattle.svcb_wire.specs.RecordGrammar.{IsHead, IsNoForm}
-use Rattle.svcb_wire.proofs.Numbers.{lt_true, lt_false, true_lt, false_lt}
-use Rattle.svcb_wire.proofs.Bytes.{bytes_take, bytes_drop}
+use Rattle.alt_base.proofs.Numbers.{lt_true, lt_false, true_lt, false_lt}
+use Rattle.dns_names.proofs.Bytes.{bytes_take, bytes_drop}
 use Rattle.svcb_wire.proofs.Pairs.{pair_reads, pair_split, pair_below}
 use Rattle.svcb_wire.proofs.ValueForms.{value_says, value_reads, value_none, none_reads}
 

@@ -5,8 +5,8 @@ use Rattle.dns_names.specs.Names.{AreBytes}
 use Rattle.svcb_wire.specs.Octets.{ids_octets, addresses_octets}
 use Rattle.svcb_wire.specs.Forms.{IsId, AreIds, AreAddresses}
 use Rattle.svcb_wire.specs.ValueReading.{first_id, first_address}
-use Rattle.svcb_wire.proofs.Numbers.{eq_false, false_eq, lt_true, lt_false, false_lt}
-use Rattle.svcb_wire.proofs.Bytes.{bytes_take}
+use Rattle.alt_base.proofs.Numbers.{eq_false, false_eq, lt_true, lt_false, false_lt}
+use Rattle.dns_names.proofs.Bytes.{bytes_take}
 use Rattle.svcb_wire.proofs.Items.{Items, Takes, IsReader}
 
 abbrev Found : Type 0

@@ -12,14 +12,14 @@ use Rattle.svcb_wire.specs.declared.param.Param.{Param}
 use Rattle.svcb_wire.specs.declared.svcb.Svcb.{Svcb}
 use Rattle.svcb_wire.specs.declared.refusal.WireRefusal.{WireRefusal}
 use Rattle.svcb_wire.specs.declared.refusal.WireRefusal.TheVariants.{Short, BadTarget, KeyOrder, ParamPast, BadValue, TooLong}
-use Rattle.svcb_wire.specs.Answers.{refused, Answers, IfRefused}
+use Rattle.alt_base.specs.Answers.{refused, Answers, IfRefused}
 use Rattle.svcb_wire.specs.Octets.{params_octets}
 use Rattle.svcb_wire.specs.Forms.{AreParams}
 use Rattle.svcb_wire.specs.Records.{IsRecord}
 use Rattle.svcb_wire.specs.RecordReading.{ParamsAnswer, RecordAnswer, read_params, with_params, target_by, behind_target, read_target, read_record}
 use Rattle.svcb_wire.specs.RecordGrammar.{SpellsRecord, GoesOn, RecordRefusedAt}
-use Rattle.svcb_wire.proofs.Numbers.{true_lt, false_lt}
-use Rattle.svcb_wire.proofs.Bytes.{bytes_drop, bytes_front, bytes_back}
+use Rattle.alt_base.proofs.Numbers.{true_lt, false_lt}
+use Rattle.dns_names.proofs.Bytes.{bytes_drop, bytes_front, bytes_back}
 use Rattle.svcb_wire.proofs.Pairs.{pair_split, pair_below}
 use Rattle.svcb_wire.proofs.ParamLists.{ParamsStop, ParamsSays, params_say}
 

@@ -12,13 +12,13 @@ use Rattle.svcb_wire.specs.declared.param.Param.{Param}
 use Rattle.svcb_wire.specs.declared.svcb.Svcb.{Svcb}
 use Rattle.svcb_wire.specs.declared.refusal.WireRefusal.{WireRefusal}
 use Rattle.svcb_wire.specs.declared.refusal.WireRefusal.TheVariants.{Short, BadTarget, KeyOrder, ParamPast, BadValue, TooLong}
-use Rattle.svcb_wire.specs.Answers.{refused}
+use Rattle.alt_base.specs.Answers.{refused}
 use Rattle.svcb_wire.specs.Octets.{params_octets}
 use Rattle.svcb_wire.specs.Records.{IsRecord, record_octets}
 use Rattle.svcb_wire.specs.RecordReading.{ParamsAnswer, RecordAnswer, first_param, read_params, with_params, target_by, behind_target, read_target, read_record}
 use Rattle.svcb_wire.specs.RecordGrammar.{SpellsRecord, GoesOn, next_key, IsHead, RecordRefusedAt, OneRecord}
-use Rattle.svcb_wire.proofs.Numbers.{lt_true, lt_false}
-use Rattle.svcb_wire.proofs.Bytes.{bytes_front, bytes_back}
+use Rattle.alt_base.proofs.Numbers.{lt_true, lt_false}
+use Rattle.dns_names.proofs.Bytes.{bytes_front, bytes_back}
 use Rattle.svcb_wire.proofs.Pairs.{pair_reads}
 use Rattle.svcb_wire.proofs.ParamSteps.{short_reads, order_reads, past_reads, value_refused}
 use Rattle.svcb_wire.proofs.ParamLists.{reads, reads_stop, passes}

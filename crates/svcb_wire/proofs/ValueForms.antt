@@ -8,7 +8,7 @@ use Rattle.svcb_wire.specs.declared.param.Param.TheVariants.{Mandatory, Alpn, No
 use Rattle.svcb_wire.specs.Octets.{keys_octets, ids_octets, addresses_octets, key_of, value_of}
 use Rattle.svcb_wire.specs.Forms.{AreRising, AreIds, AreAddresses, HasForm}
 use Rattle.svcb_wire.specs.ValueReading.{First, first_id, first_address, where_some, read_keys, read_items, read_nothing, read_port, read_value}
-use Rattle.svcb_wire.proofs.Numbers.{eq_false, true_eq, false_eq}
+use Rattle.alt_base.proofs.Numbers.{eq_false, true_eq, false_eq}
 use Rattle.svcb_wire.proofs.Pairs.{pair_reads, pair_below, pair_whole}
 use Rattle.svcb_wire.proofs.Keys.{keys_says, keys_reads}
 use Rattle.svcb_wire.proofs.Items.{Items, IsReader, items_says, items_reads}

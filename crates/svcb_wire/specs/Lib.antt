@@ -1,7 +1,6 @@
 pub mod Octets
 pub mod Forms
 pub mod Records
-pub mod Answers
 pub mod ValueReading
 pub mod RecordReading
 pub mod RecordGrammar

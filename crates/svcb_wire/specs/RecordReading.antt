@@ -7,7 +7,7 @@ use Rattle.svcb_wire.specs.declared.param.Param.{Param}
 use Rattle.svcb_wire.specs.declared.svcb.Svcb.{Svcb}
 use Rattle.svcb_wire.specs.declared.refusal.WireRefusal.{WireRefusal}
 use Rattle.svcb_wire.specs.declared.refusal.WireRefusal.TheVariants.{Short, BadTarget, KeyOrder, ParamPast, BadValue, TooLong}
-use Rattle.svcb_wire.specs.Answers.{refused}
+use Rattle.alt_base.specs.Answers.{refused}
 use Rattle.svcb_wire.specs.Octets.{key_of}
 use Rattle.svcb_wire.specs.ValueReading.{read_value}
 

@@ -2,7 +2,7 @@ ghost use Rattle.std.specs.Prelude.{◌≡◌, ◌≤◌, ℕ, List, length, Ok}
 ghost use Rattle.dns_names.specs.Names.{AreBytes};
 ghost use Rattle.svcb_wire.specs.declared.svcb.Svcb.{Svcb};
 ghost use Rattle.svcb_wire.specs.declared.refusal.WireRefusal.{WireRefusal};
-ghost use Rattle.svcb_wire.specs.Answers.{refused};
+ghost use Rattle.alt_base.specs.Answers.{refused};
 ghost use Rattle.svcb_wire.specs.Records.{IsRecord, record_octets};
 ghost use Rattle.svcb_wire.specs.RecordGrammar.{SpellsRecord, RecordRefusedAt, OneRecord};
 ghost use Rattle.svcb_wire.specs.RecordReading.{read_record};

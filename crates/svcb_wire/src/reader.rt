@@ -1,5 +1,5 @@
 ghost use Rattle.std.specs.Prelude.{◌≡◌, ◌≤◌, ◌<◌, ◌+◌, ◌^◌, length, drop, IfOk};
-ghost use Rattle.svcb_wire.specs.Answers.{Answers, IfRefused};
+ghost use Rattle.alt_base.specs.Answers.{Answers, IfRefused};
 ghost use Rattle.svcb_wire.specs.Records.{IsRecord};
 ghost use Rattle.svcb_wire.specs.RecordGrammar.{SpellsRecord, RecordRefusedAt};
 ghost use Rattle.svcb_wire.specs.RecordReading.{first_param, read_params, read_target, read_record};

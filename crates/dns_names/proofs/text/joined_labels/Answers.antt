@@ -1,6 +1,6 @@
 use Rattle.std.proofs.Common.{◌≡◌, None, sym, ◌∙◌, subst, ap, arith, ◌++◌, ◌∷◌, []}
 use Rattle.std.proofs.lemmas.List.{take_rest}
-use Rattle.dns_names.specs.Answers.{Answers}
+use Rattle.alt_base.specs.Answers.{Answers}
 use Rattle.dns_names.specs.TextReading.{label_fault}
 use Rattle.dns_names.proofs.TextLoop.{byte_read, byte_size, label_read, end_read, stop_read, fault_read}
 use Rattle.dns_names.proofs.text.joined_labels.Goals as goal

@@ -1,5 +1,5 @@
 use Rattle.std.proofs.Common.{sym, ap, Err}
-use Rattle.origin_frame.proofs.AsciiOrigins.{ascii_read, none_ascii}
+use Rattle.origin_values.proofs.AsciiOrigins.{ascii_read, none_ascii}
 use Rattle.origin_frame.proofs.reading.ascii_origin.Goals as goal
 
 pub returns-in-Ok : goal.returns-in-Ok

@@ -1,4 +1,4 @@
-use Rattle.svcb_wire.proofs.Bytes.{bytes_of}
+use Rattle.dns_names.proofs.Bytes.{bytes_of}
 use Rattle.svcb_wire.proofs.RecordSays.{spelled_by, record_by, refused_by}
 use Rattle.svcb_wire.proofs.reader.parse.Goals as goal
 

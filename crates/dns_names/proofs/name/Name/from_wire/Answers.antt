@@ -3,10 +3,10 @@ use Rattle.std.proofs.lemmas.List.{take_rest}
 use Rattle.std.proofs.lemmas.Result.{err_from_is_err_and}
 use Rattle.alt_base.specs.declared.refusal.Refused.{Refused}
 use Rattle.dns_names.specs.declared.refusal.NameRefusal.{NameRefusal}
-use Rattle.dns_names.specs.Answers.{Answers}
+use Rattle.alt_base.specs.Answers.{Answers}
 use Rattle.dns_names.specs.WireReading.{read_wire}
 use Rattle.dns_names.proofs.Bounds.{end_within, wire_refused_within}
-use Rattle.dns_names.proofs.NamesOf.{bytes_of, bytes_drop}
+use Rattle.dns_names.proofs.Bytes.{bytes_of, bytes_drop}
 use Rattle.dns_names.proofs.WireNames.{read_says, refused_by, read_name}
 use Rattle.dns_names.proofs.name.Name.from_wire.Goals as goal
 

@@ -1,16 +1,11 @@
--- The origin whose ASCII text octets are (RFC 6454 6.2).
+-- Reading the ASCII text of an origin (RFC 6454 6.2).
 use Rattle.std.specs.Prelude.{ℕ, nat_eq, List, Option, None, Some, Result, Ok, Err, if◌then◌else◌}
 use Rattle.std.specs.Cmp.Lexicographic.{pointwise}
 use Rattle.alt_base.specs.declared.refusal.At.{At}
-use Rattle.origin_values.specs.AsciiOrigin.{SpellsAscii}
 use Rattle.origin_values.specs.OriginReading.{read_origin}
 use Rattle.origin_values.specs.Written.{origin_text}
 use Rattle.origin_values.specs.declared.origin.Origin.{Origin}
 use Rattle.origin_values.specs.declared.refusal.OriginRefusal.{OriginRefusal}
-
--- no origin is written as the text
-abbrev pub IsNoOrigin : List ℕ → Type 0
-IsNoOrigin text = (origin : Origin) → ¬ (SpellsAscii text origin)
 
 -- the origin that was read, where it is written as the text
 abbrev pub if_written_as : List ℕ → Result Origin (At OriginRefusal) → Option Origin

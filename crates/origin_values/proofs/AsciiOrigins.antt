@@ -2,15 +2,14 @@
 use Rattle.std.proofs.Common.{◌≡◌, ℕ, Bool, true, false, cond, nat_eq, List, [], ◌∷◌, Option, None, Some, Result, Ok, Err, refl, ap, sym, ◌∙◌, subst, arith}
 use Rattle.std.specs.Cmp.Lexicographic.{pointwise, same_text}
 use Rattle.alt_base.specs.declared.refusal.At.{At}
-use Rattle.origin_values.specs.AsciiOrigin.{SpellsAscii}
+use Rattle.origin_values.specs.AsciiOrigin.{SpellsAscii, IsNoOrigin}
+use Rattle.origin_values.specs.AsciiReading.{if_written_as, ascii_origin}
 use Rattle.origin_values.specs.OriginReading.{read_origin}
 use Rattle.origin_values.specs.Written.{origin_text}
 use Rattle.origin_values.specs.declared.origin.Origin.{Origin}
 use Rattle.origin_values.specs.declared.refusal.OriginRefusal.{OriginRefusal}
 use Rattle.origin_values.proofs.Origins.{origin_sound}
 use Rattle.origin_values.proofs.OriginTexts.{origin_valid, origin_read_back}
-use Rattle.origin_frame.specs.PayloadGrammar.{IsNoOrigin}
-use Rattle.origin_frame.specs.PayloadReading.{if_written_as, ascii_origin}
 
 each_same : (b : ℕ) → nat_eq b b ≡ true
 each_same b = grind arith
