@@ -9,12 +9,14 @@ mod laws;
 mod record_json;
 mod replay;
 mod run;
+mod run_whole;
 mod show_altsvc;
 mod show_https;
 mod state;
 mod status;
 mod texts;
 mod turns;
+mod whole_command;
 mod whole_input;
 
 use alt_base::{ListOf, StdSink, StdSource, Words};
@@ -26,6 +28,7 @@ pub use status::Status;
 use std::alloc::{AllocError, Global};
 use std::env;
 use std::process::ExitCode;
+pub use whole_command::WholeCommand;
 
 // The words of the command line.
 fn words_of(alloc: Global, args: &[String]) -> Result<Words, AllocError> {
