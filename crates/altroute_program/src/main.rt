@@ -1,6 +1,8 @@
 //! Reads event lines and writes the lines of their actions.
 #![tactic(auto)]
 
+ghost use Rattle.std.specs.Prelude.{◌≡◌, IfOk, map, string_bytes};
+
 mod answers;
 mod command;
 mod give;
@@ -31,7 +33,9 @@ use std::process::ExitCode;
 pub use whole_command::WholeCommand;
 
 // The words of the command line.
-fn words_of(alloc: Global, args: &[String]) -> Result<Words, AllocError> {
+fn words_of(alloc: Global, args: &[String]) -> Result<Words, AllocError>
+    ensures { IfOk result (λ words. words ≡ map string_bytes args.now) }
+{
     let mut words = Vec::new(alloc);
     for arg in args {
         words.push(ListOf::from_vec(Vec::from_slice(alloc, arg.as_bytes())?))?;
