@@ -2,17 +2,25 @@
 use Rattle.std.specs.Prelude.{ℕ, Bool, List, [], ◌∷◌, Option, Some, None, if◌then◌else◌, codes, nat_eq, ◌&&◌}
 use Rattle.std.specs.Cmp.Lexicographic.{pointwise}
 use Rattle.altroute_program.specs.declared.command.Command.{Command}
-use Rattle.altroute_program.specs.declared.command.Command.TheVariants.{Replay, ShowAltSvc, ShowHttpsJson}
+use Rattle.altroute_program.specs.declared.command.Command.TheVariants.{Replay, Whole}
+use Rattle.altroute_program.specs.declared.whole_command.WholeCommand.TheVariants.{ShowAltSvc, ShowHttpsJson}
 
 -- a word is this one
 abbrev pub is_word : List ℕ → List ℕ → Bool
 is_word word this = pointwise nat_eq word this
 
+-- `show` and one more word
+abbrev pub shown : List ℕ → Option Command
+shown what = if is_word what (codes "altsvc") then Some (Whole ShowAltSvc) else None
+
+-- `show` and two more words
+abbrev pub shown_as : List ℕ → List ℕ → Option Command
+shown_as what form = if is_word what (codes "https") && is_word form (codes "--json") then Some (Whole ShowHttpsJson) else None
+
 -- the command that some words are
 abbrev pub command_of : List (List ℕ) → Option Command
 command_of [] = None
 command_of (word ∷ []) = if is_word word (codes "replay") then Some Replay else None
-command_of (word ∷ second ∷ []) = if is_word word (codes "show") && is_word second (codes "altsvc") then Some ShowAltSvc else None
-command_of (word ∷ second ∷ third ∷ []) =
-    if is_word word (codes "show") && (is_word second (codes "https") && is_word third (codes "--json")) then Some ShowHttpsJson else None
-command_of (word ∷ second ∷ third ∷ fourth ∷ words) = None
+command_of (word ∷ what ∷ []) = if is_word word (codes "show") then shown what else None
+command_of (word ∷ what ∷ form ∷ []) = if is_word word (codes "show") then shown_as what form else None
+command_of (word ∷ what ∷ form ∷ more ∷ words) = None

@@ -15,6 +15,8 @@ use Rattle.svcb_wire.specs.declared.refusal.WireRefusal.TheVariants as wire
 use Rattle.svcb_wire.specs.RecordReading.{read_record}
 use Rattle.altroute_program.specs.RecordJson.{record_line}
 use Rattle.altroute_program.specs.declared.given.Given.{Given}
+use Rattle.altroute_program.specs.declared.whole_command.WholeCommand.{WholeCommand}
+use Rattle.altroute_program.specs.declared.whole_command.WholeCommand.TheVariants.{ShowAltSvc, ShowHttpsJson}
 use Rattle.altroute_program.specs.declared.given.Given.TheVariants.{Shown, Refused}
 
 -- the input without the one newline that may end it
@@ -69,3 +71,8 @@ octets_given (Err error) = Refused (codes "refused hex\n")
 
 abbrev pub https_given : List ℕ → Given
 https_given input = octets_given (decode_of (without_newline input))
+
+-- what a command gives for its whole input
+abbrev pub given_for : WholeCommand → List ℕ → Given
+given_for ShowAltSvc input = altsvc_given input
+given_for ShowHttpsJson input = https_given input

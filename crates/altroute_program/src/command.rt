@@ -1,17 +1,45 @@
 ghost use Rattle.std.specs.Prelude.{◌≡◌};
-ghost use Rattle.altroute_program.specs.Commands.{command_of};
+ghost use Rattle.altroute_program.specs.Commands.{is_word, shown, shown_as, command_of};
 
-use alt_base::Words;
+use crate::WholeCommand;
+use alt_base::{Text, Words};
 
 /// What the words of the command line ask for.
 #[derive(Clone, Copy, Debug, PartialEq, Eq)]
 pub enum Command {
     /// Reads event lines and writes the lines of their actions.
     Replay,
-    /// Reads one Alt-Svc field value and writes a line for each alternative.
-    ShowAltSvc,
-    /// Reads one SVCB or HTTPS record's RDATA in hex and writes it as one line of JSON.
-    ShowHttpsJson,
+    /// Reads one value, to the end of the input, and writes it in another form.
+    Whole(WholeCommand),
+}
+
+// Whether a word is this one.
+fn is_word(word: &Text, this: &[u8]) -> bool
+    ensures { result ≡ is_word word.now this.now }
+{
+    word.as_slice() == this
+}
+
+// What `show` and one more word ask for.
+fn shown(what: &Text) -> Option<Command>
+    ensures { result ≡ shown what.now }
+{
+    if is_word(what, b"altsvc") {
+        Some(Command::Whole(WholeCommand::ShowAltSvc))
+    } else {
+        None
+    }
+}
+
+// What `show` and two more words ask for.
+fn shown_as(what: &Text, form: &Text) -> Option<Command>
+    ensures { result ≡ shown_as what.now form.now }
+{
+    if is_word(what, b"https") && is_word(form, b"--json") {
+        Some(Command::Whole(WholeCommand::ShowHttpsJson))
+    } else {
+        None
+    }
 }
 
 /// The command that some words are, if they are one.
@@ -20,25 +48,22 @@ pub fn command_of(words: &Words) -> Option<Command>
 {
     match words.as_slice() {
         [word] => {
-            if word.as_slice() == b"replay".as_slice() {
+            if is_word(word, b"replay") {
                 Some(Command::Replay)
             } else {
                 None
             }
         }
-        [word, second] => {
-            if word.as_slice() == b"show".as_slice() && second.as_slice() == b"altsvc".as_slice() {
-                Some(Command::ShowAltSvc)
+        [word, what] => {
+            if is_word(word, b"show") {
+                shown(what)
             } else {
                 None
             }
         }
-        [word, second, third] => {
-            if word.as_slice() == b"show".as_slice()
-                && second.as_slice() == b"https".as_slice()
-                && third.as_slice() == b"--json".as_slice()
-            {
-                Some(Command::ShowHttpsJson)
+        [word, what, form] => {
+            if is_word(word, b"show") {
+                shown_as(what, form)
             } else {
                 None
             }

@@ -1,6 +1,8 @@
 //! Reads event lines and writes the lines of their actions.
 #![tactic(auto)]
 
+ghost use Rattle.std.specs.Prelude.{◌≡◌, IfOk, map, string_bytes};
+
 mod answers;
 mod command;
 mod give;
@@ -9,12 +11,14 @@ mod laws;
 mod record_json;
 mod replay;
 mod run;
+mod run_whole;
 mod show_altsvc;
 mod show_https;
 mod state;
 mod status;
 mod texts;
 mod turns;
+mod whole_command;
 mod whole_input;
 
 use alt_base::{ListOf, StdSink, StdSource, Words};
@@ -26,9 +30,12 @@ pub use status::Status;
 use std::alloc::{AllocError, Global};
 use std::env;
 use std::process::ExitCode;
+pub use whole_command::WholeCommand;
 
 // The words of the command line.
-fn words_of(alloc: Global, args: &[String]) -> Result<Words, AllocError> {
+fn words_of(alloc: Global, args: &[String]) -> Result<Words, AllocError>
+    ensures { IfOk result (λ words. words ≡ map string_bytes args.now) }
+{
     let mut words = Vec::new(alloc);
     for arg in args {
         words.push(ListOf::from_vec(Vec::from_slice(alloc, arg.as_bytes())?))?;

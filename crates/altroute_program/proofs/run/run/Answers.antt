@@ -1,9 +1,9 @@
 use Rattle.std.proofs.Common.{◌≡◌, ◌∙◌, ap, Some, Option, sym, subst}
 use Rattle.altroute_program.specs.declared.command.Command.{Command}
-use Rattle.altroute_program.specs.declared.command.Command.TheVariants.{Replay, ShowAltSvc, ShowHttpsJson}
+use Rattle.altroute_program.specs.declared.command.Command.TheVariants.{Replay, Whole}
 use Rattle.altroute_program.specs.Commands.{command_of}
 use Rattle.altroute_program.specs.Ends.{Seen}
-use Rattle.altroute_program.specs.Given.{altsvc_given, https_given}
+use Rattle.altroute_program.specs.Given.{given_for}
 use Rattle.altroute_program.specs.Runs.{IsComplete}
 use Rattle.altroute_program.proofs.Complete.{complete}
 use Rattle.altroute_program.proofs.WholeInputs.{whole_complete}
@@ -16,16 +16,9 @@ returns-in-Some-Replay-clause-complete g c =
     let is : Some Replay ≡ command_of c.args.words.now = sym (sym c.command_of.ensures ∙ c.in-Some-Replay.is ∙ ap Some c.in-Some-Replay.field-0-is) in
     subst (λ (w : Option Command). IsComplete w c.replay.result old new) is (complete c.replay.result old new c.replay.ensures)
 
-pub returns-in-Some-ShowAltSvc-clause-complete : goal.returns-in-Some-ShowAltSvc-clause-complete
-returns-in-Some-ShowAltSvc-clause-complete g c =
+pub returns-in-Some-Whole-clause-complete : goal.returns-in-Some-Whole-clause-complete
+returns-in-Some-Whole-clause-complete g c =
     let old : Seen = record { left = g.S.Source.left c.args.source.now; source_ended = g.S.Source.ended c.args.source.now; read_faults = g.S.Source.faults c.args.source.now; written = g.K.Sink.written c.args.sink.now; write_faults = g.K.Sink.faults c.args.sink.now } in
-    let new : Seen = record { left = g.S.Source.left c.show_altsvc.new.source; source_ended = g.S.Source.ended c.show_altsvc.new.source; read_faults = g.S.Source.faults c.show_altsvc.new.source; written = g.K.Sink.written c.show_altsvc.new.sink; write_faults = g.K.Sink.faults c.show_altsvc.new.sink } in
-    let is : Some ShowAltSvc ≡ command_of c.args.words.now = sym (sym c.command_of.ensures ∙ c.in-Some-ShowAltSvc.is ∙ ap Some c.in-Some-ShowAltSvc.field-0-is) in
-    subst (λ (w : Option Command). IsComplete w c.show_altsvc.result old new) is (whole_complete altsvc_given c.show_altsvc.result old new c.show_altsvc.ensures)
-
-pub returns-in-Some-ShowHttpsJson-clause-complete : goal.returns-in-Some-ShowHttpsJson-clause-complete
-returns-in-Some-ShowHttpsJson-clause-complete g c =
-    let old : Seen = record { left = g.S.Source.left c.args.source.now; source_ended = g.S.Source.ended c.args.source.now; read_faults = g.S.Source.faults c.args.source.now; written = g.K.Sink.written c.args.sink.now; write_faults = g.K.Sink.faults c.args.sink.now } in
-    let new : Seen = record { left = g.S.Source.left c.show_https.new.source; source_ended = g.S.Source.ended c.show_https.new.source; read_faults = g.S.Source.faults c.show_https.new.source; written = g.K.Sink.written c.show_https.new.sink; write_faults = g.K.Sink.faults c.show_https.new.sink } in
-    let is : Some ShowHttpsJson ≡ command_of c.args.words.now = sym (sym c.command_of.ensures ∙ c.in-Some-ShowHttpsJson.is ∙ ap Some c.in-Some-ShowHttpsJson.field-0-is) in
-    subst (λ (w : Option Command). IsComplete w c.show_https.result old new) is (whole_complete https_given c.show_https.result old new c.show_https.ensures)
+    let new : Seen = record { left = g.S.Source.left c.run_whole.new.source; source_ended = g.S.Source.ended c.run_whole.new.source; read_faults = g.S.Source.faults c.run_whole.new.source; written = g.K.Sink.written c.run_whole.new.sink; write_faults = g.K.Sink.faults c.run_whole.new.sink } in
+    let is : Some (Whole c.in-Some-Whole.command) ≡ command_of c.args.words.now = sym (sym c.command_of.ensures ∙ c.in-Some-Whole.is ∙ ap Some c.in-Some-Whole.field-0-is) in
+    subst (λ (w : Option Command). IsComplete w c.run_whole.result old new) is (whole_complete (given_for c.in-Some-Whole.command) c.run_whole.result old new c.run_whole.ensures)
