@@ -1,5 +1,5 @@
 ghost use Rattle.std.specs.Prelude.{◌≡◌};
-ghost use Rattle.altroute_program.specs.Commands.{is_word, shown, shown_as, command_of};
+ghost use Rattle.altroute_program.specs.Commands.{is_word, shown, shown_as, written, command_of};
 
 use crate::WholeCommand;
 use alt_base::{Text, Words};
@@ -26,6 +26,8 @@ fn shown(what: &Text) -> Option<Command>
 {
     if is_word(what, b"altsvc") {
         Some(Command::Whole(WholeCommand::ShowAltSvc))
+    } else if is_word(what, b"https") {
+        Some(Command::Whole(WholeCommand::ShowHttps))
     } else {
         None
     }
@@ -37,6 +39,17 @@ fn shown_as(what: &Text, form: &Text) -> Option<Command>
 {
     if is_word(what, b"https") && is_word(form, b"--json") {
         Some(Command::Whole(WholeCommand::ShowHttpsJson))
+    } else {
+        None
+    }
+}
+
+// What `write` and one more word ask for.
+fn written(what: &Text) -> Option<Command>
+    ensures { result ≡ written what.now }
+{
+    if is_word(what, b"https") {
+        Some(Command::Whole(WholeCommand::WriteHttps))
     } else {
         None
     }
@@ -57,6 +70,8 @@ pub fn command_of(words: &Words) -> Option<Command>
         [word, what] => {
             if is_word(word, b"show") {
                 shown(what)
+            } else if is_word(word, b"write") {
+                written(what)
             } else {
                 None
             }

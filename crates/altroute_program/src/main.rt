@@ -8,6 +8,7 @@ mod command;
 mod give;
 mod given;
 mod laws;
+mod record_form;
 mod record_json;
 mod replay;
 mod run;
@@ -20,11 +21,13 @@ mod texts;
 mod turns;
 mod whole_command;
 mod whole_input;
+mod write_https;
 
 use alt_base::{ListOf, StdSink, StdSource, Words};
 pub use command::{Command, command_of};
 pub use given::Given;
 pub use laws::{lines_are_bytes, stop_stays, text_grows};
+pub use record_form::RecordForm;
 pub use run::run;
 pub use status::Status;
 use std::alloc::{AllocError, Global};
@@ -59,5 +62,7 @@ fn main(rt: HostRuntime) -> ExitCode {
     ExitCode::from(run(alloc, &words, &mut source, &mut sink).number())
 }
 
+#[cfg(test)]
+mod record_tests;
 #[cfg(test)]
 mod tests;

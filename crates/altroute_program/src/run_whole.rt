@@ -6,8 +6,10 @@ ghost use Rattle.altroute_program.specs.WholeInput.{WholeEnds};
 use crate::give::give;
 use crate::given::Given;
 use crate::show_altsvc::altsvc_given;
-use crate::show_https::https_given;
+use crate::record_form::RecordForm;
+use crate::show_https::hex_given;
 use crate::whole_input::read_all;
+use crate::write_https::text_given;
 use crate::{Status, WholeCommand};
 use alt_base::{NoMemory, Sink, Source};
 use std::alloc::Global;
@@ -18,7 +20,9 @@ fn given_for(alloc: Global, command: WholeCommand, input: &[u8]) -> Result<Given
 {
     match command {
         WholeCommand::ShowAltSvc => altsvc_given(alloc, input),
-        WholeCommand::ShowHttpsJson => https_given(alloc, input),
+        WholeCommand::ShowHttps => hex_given(alloc, RecordForm::Text, input),
+        WholeCommand::ShowHttpsJson => hex_given(alloc, RecordForm::Json, input),
+        WholeCommand::WriteHttps => text_given(alloc, input),
     }
 }
 

@@ -1,10 +1,10 @@
 ghost use Rattle.std.specs.Prelude.{◌≡◌, IfOk};
-ghost use Rattle.altroute_program.specs.Given.{https_given, wire_refusal_number, record_reading_given};
+ghost use Rattle.altroute_program.specs.Given.{hex_given, wire_refusal_number, record_given};
 ghost use Rattle.svcb_wire.specs.RecordReading.{read_record};
 
 use crate::give::{trimmed, write_refused_at};
 use crate::given::Given;
-use crate::record_json::write_record;
+use crate::record_form::{RecordForm, write_line};
 use alt_base::{ListOf, NoMemory, Refused};
 use hex::FromHexError;
 use std::alloc::Global;
@@ -24,11 +24,11 @@ fn refusal_number(refusal: WireRefusal) -> u32
 }
 
 // What is written for the octets of a record.
-fn record_given(alloc: Global, octets: &[u8]) -> Result<Given, NoMemory>
-    ensures { IfOk result (λ given. given ≡ record_reading_given (read_record octets.now)) }
+fn record_given(alloc: Global, form: RecordForm, octets: &[u8]) -> Result<Given, NoMemory>
+    ensures { IfOk result (λ given. given ≡ record_given form (read_record octets.now)) }
 {
     match parse(alloc, octets) {
-        Ok(value) => Ok(Given::Shown(write_record(alloc, &value)?)),
+        Ok(value) => Ok(Given::Shown(write_line(alloc, &value, form)?)),
         Err(Refused::NoMemory) => Err(NoMemory),
         Err(Refused::At { place, reason }) => Ok(Given::Refused(write_refused_at(
             alloc,
@@ -38,12 +38,12 @@ fn record_given(alloc: Global, octets: &[u8]) -> Result<Given, NoMemory>
     }
 }
 
-/// What is written for an input.
-pub(crate) fn https_given(alloc: Global, input: &[u8]) -> Result<Given, NoMemory>
-    ensures { IfOk result (λ given. given ≡ https_given input.now) }
+/// What is written for an input of hex digits, the record in a form.
+pub(crate) fn hex_given(alloc: Global, form: RecordForm, input: &[u8]) -> Result<Given, NoMemory>
+    ensures { IfOk result (λ given. given ≡ hex_given form input.now) }
 {
     match hex::decode(alloc, trimmed(input)) {
-        Ok(octets) => record_given(alloc, octets.as_slice()),
+        Ok(octets) => record_given(alloc, form, octets.as_slice()),
         Err(FromHexError::OutOfMemory) => Err(NoMemory),
         Err(_) => Ok(Given::Refused(ListOf::from_vec(Vec::from_slice(alloc, b"refused hex\n")?))),
     }

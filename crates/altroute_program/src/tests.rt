@@ -2,7 +2,7 @@ use super::*;
 use alt_base::{Bytes, Calls, MemorySink, MemorySource, Text};
 use std::test::Fail;
 
-fn bytes_of(alloc: Global, bytes: &[u8]) -> Result<Bytes, Fail> {
+pub(crate) fn bytes_of(alloc: Global, bytes: &[u8]) -> Result<Bytes, Fail> {
     Ok(ListOf::from_vec(Vec::from_slice(alloc, bytes)?))
 }
 
@@ -21,9 +21,9 @@ fn calls(alloc: Global, numbers: &[u32]) -> Result<Calls, Fail> {
 
 /// What a run gives: its status's number, and what it wrote.
 #[derive(Drop)]
-struct Gave {
-    status: u8,
-    written: Vec<u8>,
+pub(crate) struct Gave {
+    pub status: u8,
+    pub written: Vec<u8>,
 }
 
 fn replayed(
@@ -41,7 +41,7 @@ fn replayed(
     })
 }
 
-fn shown(
+pub(crate) fn shown(
     alloc: Global,
     all: &[&[u8]],
     input: Bytes,
@@ -55,38 +55,6 @@ fn shown(
         status: status.number(),
         written: Vec::from_slice(alloc, sink.bytes())?,
     })
-}
-
-#[test]
-fn records(rt: HostRuntime) -> Result<(), Fail> {
-    let alloc = rt.alloc();
-    let rows: [(&[u8], &[u8], u8); 5] = [
-        (
-            b"000100000100030268320003000220fb\n",
-            b"{\"params\":[{\"hex\":\"026832\",\"key\":1},{\"hex\":\"20fb\",\"key\":3}],\"priority\":1,\"target\":\".\"}\n",
-            0,
-        ),
-        (
-            b"00000161076578616d706c6500",
-            b"{\"params\":[],\"priority\":0,\"target\":\"a.example.\"}\n",
-            0,
-        ),
-        (b"", b"refused 1 at 0\n", 1),
-        (b"0", b"refused hex\n", 1),
-        (b"0001000003000201bb0003000201bb", b"refused 3 at 9\n", 1),
-    ];
-    for (input, written, status) in rows {
-        let gave = shown(
-            alloc,
-            &[b"show", b"https", b"--json"],
-            bytes_of(alloc, input)?,
-            &[],
-            &[],
-        )?;
-        assert_eq!(rt; gave.written.as_slice(), written);
-        assert_eq!(rt; gave.status, status);
-    }
-    Ok(())
 }
 
 #[test]
