@@ -1,0 +1,9 @@
+//! The text of SVCB and HTTPS records (RFC 9460 2.1 and appendix A): one record's RDATA on one line.
+#![tactic(auto)]
+
+mod refusal;
+mod token;
+mod unescaped;
+
+pub use refusal::RecordTextRefusal;
+pub use unescaped::Unescaped;
