@@ -34,9 +34,13 @@ abbrev pub is_end : Style → ℕ → Bool
 is_end Contiguous b = is_blank b
 is_end InQuotes b = nat_eq b 34
 
+-- where the text ends, a string that isn't between quotes does
+abbrev pub token_at_end : Style → Token
+token_at_end Contiguous = token.End
+token_at_end InQuotes = token.Wrong
+
 abbrev pub token_at : Style → List ℕ → Token
-token_at Contiguous [] = token.End
-token_at InQuotes [] = token.Wrong
+token_at style [] = token_at_end style
 token_at style (b ∷ rest) =
     if is_end style b then token.End
     else (if nat_eq b 92 then escape_at style rest
