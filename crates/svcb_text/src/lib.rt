@@ -3,6 +3,8 @@
 
 mod quoting;
 mod refusal;
+mod string_fault;
+mod strings;
 mod token;
 mod unescaped;
 
