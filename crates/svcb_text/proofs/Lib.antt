@@ -4,3 +4,6 @@ pub mod QuotingLoop
 pub mod TokenLaws
 pub mod StringSteps
 pub mod StringLoop
+pub mod StringSays
+pub mod StringSpelled
+pub mod StringLaws

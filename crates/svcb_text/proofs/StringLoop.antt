@@ -20,7 +20,7 @@ pub record StringRead (text : List ℕ) (style : Style) (bytes : List ℕ) (plai
   pub within : place ≤ length text
   pub same : reads style (value_of bytes plain) place (drop place text) ≡ read_string text
 
-begins_reads : (text : List ℕ) (style : Style) → BeginsStyle style text → StringRead text style [] true (length (opening style))
+pub begins_reads : (text : List ℕ) (style : Style) → BeginsStyle style text → StringRead text style [] true (length (opening style))
 begins_reads [] Contiguous h = record { within = omega arith; same = refl }
 begins_reads [] InQuotes h = cc
 begins_reads (b ∷ bs) Contiguous h =
