@@ -7,3 +7,15 @@ pub mod StringLoop
 pub mod StringSays
 pub mod StringSpelled
 pub mod StringLaws
+pub mod ParamKeys
+pub mod Items
+pub mod FirstParam
+pub mod FirstRead
+pub mod ParamLists
+pub mod ParamPasses
+pub mod Front
+pub mod RecordSays
+pub mod RecordSpelled
+pub mod SpelledRecords
+pub mod KeyedMap
+pub mod ReaderSteps

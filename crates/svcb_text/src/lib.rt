@@ -1,8 +1,13 @@
 //! The text of SVCB and HTTPS records (RFC 9460 2.1 and appendix A): one record's RDATA on one line.
 #![tactic(auto)]
 
+mod key_names;
+mod laws;
+mod params;
 mod quoting;
+mod reader;
 mod refusal;
+mod sizes;
 mod string_fault;
 mod string_laws;
 #[cfg(test)]
@@ -10,7 +15,10 @@ mod string_tests;
 mod strings;
 mod token;
 mod unescaped;
+mod values;
 
+pub use laws::{one_record_text, record_texts_are_read, spelled_record_texts};
+pub use reader::parse;
 pub use refusal::RecordTextRefusal;
 pub use string_laws::{one_string, strings_are_read, strings_hold_bytes};
 pub use unescaped::Unescaped;
