@@ -7,6 +7,14 @@ pub mod StringLoop
 pub mod StringSays
 pub mod StringSpelled
 pub mod StringLaws
+pub mod DigitTexts
+pub mod KeyLaws
+pub mod CommaItems
+pub mod KeyLists
+pub mod KeySets
+pub mod IdTexts
+pub mod AddressTexts
+pub mod AddressLists
 pub mod ParamKeys
 pub mod Items
 pub mod FirstParam

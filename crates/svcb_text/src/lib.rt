@@ -1,9 +1,13 @@
 //! The text of SVCB and HTTPS records (RFC 9460 2.1 and appendix A): one record's RDATA on one line.
 #![tactic(auto)]
 
+mod hints;
+mod ids;
 mod key_names;
 mod laws;
+mod mandatory;
 mod params;
+mod port;
 mod quoting;
 mod reader;
 mod refusal;
@@ -15,6 +19,7 @@ mod string_tests;
 mod strings;
 mod token;
 mod unescaped;
+mod value_laws;
 mod values;
 
 pub use laws::{one_record_text, record_texts_are_read, spelled_record_texts};
@@ -22,3 +27,4 @@ pub use reader::parse;
 pub use refusal::RecordTextRefusal;
 pub use string_laws::{one_string, strings_are_read, strings_hold_bytes};
 pub use unescaped::Unescaped;
+pub use value_laws::keys_are_named;
