@@ -260,17 +260,17 @@ record_says x bytes = by (nat_lt 65535 (length x)) refl
         let run = longest_run is_blank x in
         number_says (priority_of (read_delta_seconds (item_of (after_blanks x)))) x (run_of is_blank x) (after_blanks x) (0 + length (run_of is_blank x)) bytes (false_lt 65535 _ is) run.text run.valid run.longest (omega arith) refl
 
-pub read_says : (x : List ℕ) (value : Svcb) → AreBytes x → read_record_text x ≡ Ok value → SpellsRecordText x value
-read_says x value bytes e = subst (Says x) e (record_says x bytes)
+pub record_spells : (x : List ℕ) (value : Svcb) → AreBytes x → read_record_text x ≡ Ok value → SpellsRecordText x value
+record_spells x value bytes e = subst (Says x) e (record_says x bytes)
 
-pub refusal_says : (x : List ℕ) (q : ℕ) (reason : RecordTextRefusal) → AreBytes x → read_record_text x ≡ refused q reason → RecordTextRefusedAt x q reason
-refusal_says x q reason bytes e = subst (Says x) e (record_says x bytes)
+pub record_refuses : (x : List ℕ) (q : ℕ) (reason : RecordTextRefusal) → AreBytes x → read_record_text x ≡ refused q reason → RecordTextRefusedAt x q reason
+record_refuses x q reason bytes e = subst (Says x) e (record_says x bytes)
 
 pub spelled_by : (r : Result Svcb (Refused RecordTextRefusal)) (x : List ℕ) → AreBytes x → Answers r (read_record_text x) → IfOk r (SpellsRecordText x)
-spelled_by (Ok value) x bytes h = read_says x value bytes h
+spelled_by (Ok value) x bytes h = record_spells x value bytes h
 spelled_by (Err e) x bytes h = tt
 
 pub refused_by : (r : Result Svcb (Refused RecordTextRefusal)) (x : List ℕ) → AreBytes x → Answers r (read_record_text x) → IfRefused r (RecordTextRefusedAt x)
 refused_by (Ok value) x bytes h = tt
 refused_by (Err NoMemory) x bytes h = tt
-refused_by (Err (RefusedThere place reason)) x bytes h = refusal_says x place reason bytes h
+refused_by (Err (RefusedThere place reason)) x bytes h = record_refuses x place reason bytes h

@@ -71,8 +71,8 @@ finish_by size value a b p q =
     ap (λ t. cond t (cond (nat_lt 65535 (length (record_octets value))) (refused size TooLong) (Ok value)) (refused size Inconsistent)) p
     ∙ ap (λ t. cond a (cond t (refused size TooLong) (Ok value)) (refused size Inconsistent)) q
 
-pub spelled_reads : (x : List ℕ) (value : Svcb) → SpellsRecordText x value → read_record_text x ≡ Ok value
-spelled_reads x value s = form_reads x value s.form ∙ finish_by (length x) value true false (may_be value s.allowed) (lt_false 65535 _ s.sized)
+pub record_spelled : (x : List ℕ) (value : Svcb) → SpellsRecordText x value → read_record_text x ≡ Ok value
+record_spelled x value s = form_reads x value s.form ∙ finish_by (length x) value true false (may_be value s.allowed) (lt_false 65535 _ s.sized)
 
 refused_is : (q q' : ℕ) (reason : RecordTextRefusal) → q ≡ q' → (let a : RecordAnswer = refused q reason in a) ≡ (let b : RecordAnswer = refused q' reason in b)
 refused_is q q' reason e = ap (λ n. let a : RecordAnswer = refused n reason in a) e
@@ -126,16 +126,16 @@ repeats : (key : ℕ) (params : List Param) (t : Bool) → has_key key (all_plac
 repeats key params true is h = refl
 repeats key params false is h = absurd (h (new_among key params is))
 
-pub refused_reads : (x : List ℕ) (q : ℕ) (reason : RecordTextRefusal) → AreBytes x → RecordTextRefusedAt x q reason → read_record_text x ≡ refused q reason
-refused_reads x q BadPriority bytes (short, s) = priority_refused x q short s
-refused_reads x q BadTarget bytes (short, s) = target_refused x q short s
-refused_reads x q BadKey bytes (short, s) = stops_reads x s.params s.rest q q BadKey bytes short s.goes (record { bad = s.bad; at = refl })
-refused_reads x q RepeatedKey bytes (short, s) =
+pub record_refused : (x : List ℕ) (q : ℕ) (reason : RecordTextRefusal) → AreBytes x → RecordTextRefusedAt x q reason → read_record_text x ≡ refused q reason
+record_refused x q BadPriority bytes (short, s) = priority_refused x q short s
+record_refused x q BadTarget bytes (short, s) = target_refused x q short s
+record_refused x q BadKey bytes (short, s) = stops_reads x s.params s.rest q q BadKey bytes short s.goes (record { bad = s.bad; at = refl })
+record_refused x q RepeatedKey bytes (short, s) =
     stops_reads x s.params (key_name s.key ++ s.more) q q RepeatedKey bytes short s.goes (record { key = s.key; more = s.more; text = refl; fits = s.fits; ends = s.ends; repeated = repeats s.key s.params (has_key s.key (all_placed [] s.params)) refl s.repeated; at = refl })
-refused_reads x q BadString bytes (short, s) =
+record_refused x q BadString bytes (short, s) =
     stops_reads x s.params (key_name s.key ++ 61 ∷ s.more) s.place q BadString bytes short s.goes
     (record { key = s.key; more = s.more; wrong = s.at; text = refl; fits = s.fits; is_new = none_among s.key s.params s.is_new; refused = s.refused; at = s.wrong })
-refused_reads x q (BadValue key) bytes (short, s) =
+record_refused x q (BadValue key) bytes (short, s) =
     stops_reads x s.params _ s.place q (BadValue key) bytes short s.goes
     (record {
       given = s.given;
@@ -145,10 +145,10 @@ refused_reads x q (BadValue key) bytes (short, s) =
       bad = s.bad;
       at = s.first;
     })
-refused_reads x q Inconsistent bytes s =
+record_refused x q Inconsistent bytes s =
     form_reads x s.value s.form ∙ finish_by (length x) s.value false (nat_lt 65535 (length (record_octets s.value))) (may_not_be s.value s.bad) refl ∙ refused_is (length x) q Inconsistent (sym s.place)
-refused_reads x q TooLong bytes (inl s) = let a : nat_lt 65535 (length x) ≡ true = lt_true 65535 (length x) s.0 in rw a (refused_is 65535 q TooLong (sym s.1))
-refused_reads x q TooLong bytes (inr s) = form_reads x s.value s.form ∙ finish_by (length x) s.value true true (may_be s.value s.allowed) (lt_true 65535 _ s.long) ∙ refused_is (length x) q TooLong (sym s.place)
+record_refused x q TooLong bytes (inl s) = let a : nat_lt 65535 (length x) ≡ true = lt_true 65535 (length x) s.0 in rw a (refused_is 65535 q TooLong (sym s.1))
+record_refused x q TooLong bytes (inr s) = form_reads x s.value s.form ∙ finish_by (length x) s.value true true (may_be s.value s.allowed) (lt_true 65535 _ s.long) ∙ refused_is (length x) q TooLong (sym s.place)
 
 either_says : (x : List ℕ) (r : RecordAnswer) → Says x r → ((value : Svcb) × SpellsRecordText x value) ⊎ ((q : ℕ) × (reason : RecordTextRefusal) × RecordTextRefusedAt x q reason)
 either_says x (Ok value) s = inl (value, s)
@@ -168,7 +168,7 @@ no_both value q reason r a b = cc
 pub one_of : (x : List ℕ) → AreBytes x → OneRecordText x
 one_of x bytes = record {
   some = either_says x (read_record_text x) (record_says x bytes);
-  one_value = λ value value' a b. same_ok value value' (sym (spelled_reads x value a) ∙ spelled_reads x value' b);
-  one_refusal = λ q q' reason reason' a b. same_refused q q' reason reason' (sym (refused_reads x q reason bytes a) ∙ refused_reads x q' reason' bytes b);
-  not_both = λ value q reason a b. no_both value q reason (read_record_text x) (spelled_reads x value a) (refused_reads x q reason bytes b);
+  one_value = λ value value' a b. same_ok value value' (sym (record_spelled x value a) ∙ record_spelled x value' b);
+  one_refusal = λ q q' reason reason' a b. same_refused q q' reason reason' (sym (record_refused x q reason bytes a) ∙ record_refused x q' reason' bytes b);
+  not_both = λ value q reason a b. no_both value q reason (read_record_text x) (record_spelled x value a) (record_refused x q reason bytes b);
 }

@@ -23,7 +23,7 @@ use Rattle.svcb_text.proofs.Items.{blanks_end}
 use Rattle.svcb_text.proofs.FirstParam.{IsFirst}
 use Rattle.svcb_text.proofs.FirstRead.{value_bytes}
 use Rattle.svcb_text.proofs.ParamPasses.{ends_before, spaced_split}
-use Rattle.svcb_text.proofs.RecordSays.{read_says}
+use Rattle.svcb_text.proofs.RecordSays.{record_spells}
 
 -- each parameter is of its key's form
 each_forms : (ss : List Spaced) (params : List Param) (tail : List ℕ) → AreBytes (spaced_texts ss ++ tail) → SpellEach ss params → EndsItem tail → HaveForms params
@@ -59,5 +59,5 @@ spelled_record x value bytes s =
     }
 
 pub record_by : (r : Result Svcb (Refused RecordTextRefusal)) (x : List ℕ) → AreBytes x → Answers r (read_record_text x) → IfOk r IsRecord
-record_by (Ok value) x bytes h = spelled_record x value bytes (read_says x value bytes h)
+record_by (Ok value) x bytes h = spelled_record x value bytes (record_spells x value bytes h)
 record_by (Err e) x bytes h = tt

@@ -17,6 +17,8 @@ mod string_laws;
 #[cfg(test)]
 mod string_tests;
 mod strings;
+#[cfg(test)]
+mod tests;
 mod token;
 mod unescaped;
 mod value_laws;
