@@ -6,3 +6,4 @@ pub mod KeySets
 pub mod IdTexts
 pub mod AddressTexts
 pub mod AddressLists
+pub mod ValueLaws

@@ -10,8 +10,10 @@ mod refusal;
 mod token;
 mod unescaped;
 mod value_laws;
+#[cfg(test)]
+mod value_tests;
 mod values;
 
 pub use refusal::RecordTextRefusal;
 pub use unescaped::Unescaped;
-pub use value_laws::keys_are_named;
+pub use value_laws::{keys_are_named, values_are_read};
