@@ -15,6 +15,7 @@ pub mod KeySets
 pub mod IdTexts
 pub mod AddressTexts
 pub mod AddressLists
+pub mod ValueLaws
 pub mod ParamKeys
 pub mod Items
 pub mod FirstParam

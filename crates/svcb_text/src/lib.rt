@@ -22,6 +22,8 @@ mod tests;
 mod token;
 mod unescaped;
 mod value_laws;
+#[cfg(test)]
+mod value_tests;
 mod values;
 
 pub use laws::{one_record_text, record_texts_are_read, spelled_record_texts};
@@ -29,4 +31,4 @@ pub use reader::parse;
 pub use refusal::RecordTextRefusal;
 pub use string_laws::{one_string, strings_are_read, strings_hold_bytes};
 pub use unescaped::Unescaped;
-pub use value_laws::keys_are_named;
+pub use value_laws::{keys_are_named, values_are_read};
