@@ -1,0 +1,12 @@
+pub mod Answers
+pub mod KeyNames
+pub mod StringGrammar
+pub mod StringReading
+pub mod StringAnswers
+pub mod ValueGrammar
+pub mod ValueReading
+pub mod ParamOrder
+pub mod TextGrammar
+pub mod TextRefusals
+pub mod TextReading
+pub mod Written
