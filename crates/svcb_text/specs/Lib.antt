@@ -9,3 +9,4 @@ pub mod TextGrammar
 pub mod TextRefusals
 pub mod TextReading
 pub mod Written
+pub mod Commas
