@@ -1,3 +1,4 @@
+pub mod Truth
 pub mod ClassLaws
 pub mod QuotingLaws
 pub mod QuotingLoop

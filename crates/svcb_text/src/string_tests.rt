@@ -1,5 +1,5 @@
-use crate::string_fault::StringFault;
 use crate::quoting::in_quotes;
+use crate::string_fault::StringFault;
 use crate::strings::read_string;
 use std::alloc::Global;
 use std::process::Abort;
@@ -35,7 +35,14 @@ fn strings_up_to_a_blank(rt: HostRuntime) -> Result<(), Fail> {
     spells(&rt, rt.alloc(), b"h2 port=1", b"h2", true, 2)?;
     spells(&rt, rt.alloc(), b"!#'*:<[]~", b"!#'*:<[]~", true, 9)?;
     spells(&rt, rt.alloc(), b"\\032", b" ", false, 4)?;
-    spells(&rt, rt.alloc(), b"\\\"\\;\\(\\)\\\\ x", b"\";()\\", false, 10)?;
+    spells(
+        &rt,
+        rt.alloc(),
+        b"\\\"\\;\\(\\)\\\\ x",
+        b"\";()\\",
+        false,
+        10,
+    )?;
     spells(&rt, rt.alloc(), b"a\\000\\255b", b"a\x00\xffb", false, 10)
 }
 
@@ -45,7 +52,14 @@ fn strings_between_quotes(rt: HostRuntime) -> Result<(), Fail> {
     spells(&rt, rt.alloc(), b"\"h2\"", b"h2", true, 4)?;
     spells(&rt, rt.alloc(), b"\"a b\tc\" d", b"a b\tc", true, 7)?;
     spells(&rt, rt.alloc(), b"\";()\"\tx", b";()", true, 5)?;
-    spells(&rt, rt.alloc(), b"\"\\\"\\\\\\ \\\t\"", b"\"\\ \t", false, 10)?;
+    spells(
+        &rt,
+        rt.alloc(),
+        b"\"\\\"\\\\\\ \\\t\"",
+        b"\"\\ \t",
+        false,
+        10,
+    )?;
     spells(&rt, rt.alloc(), b"\"\\032x\"", b" x", false, 7)
 }
 
@@ -99,6 +113,9 @@ fn bytes_between_quotes(rt: HostRuntime) -> Result<(), Fail> {
     let none = in_quotes(rt.alloc(), b"")?;
     assert_eq!(rt; none.as_slice(), b"\"\"".as_slice());
     let written = in_quotes(rt.alloc(), b"a;()\"\\ ~\t\x00\x7f\xff")?;
-    assert_eq!(rt; written.as_slice(), b"\"a;()\\\"\\\\ ~\\009\\000\\127\\255\"".as_slice());
+    assert_eq!(rt;
+        written.as_slice(),
+        b"\"a;()\\\"\\\\ ~\\009\\000\\127\\255\"".as_slice()
+    );
     Ok(())
 }
