@@ -1,5 +1,12 @@
+pub mod Truth
 pub mod ClassLaws
 pub mod QuotingLaws
 pub mod QuotingLoop
 pub mod WrittenIds
 pub mod WrittenOrder
+pub mod TokenLaws
+pub mod StringSteps
+pub mod StringLoop
+pub mod StringSays
+pub mod StringSpelled
+pub mod StringLaws

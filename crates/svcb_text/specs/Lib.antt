@@ -2,6 +2,7 @@ pub mod Answers
 pub mod KeyNames
 pub mod StringGrammar
 pub mod StringReading
+pub mod StringAnswers
 pub mod ValueGrammar
 pub mod ValueReading
 pub mod ParamOrder

@@ -3,8 +3,14 @@
 
 mod quoting;
 mod refusal;
+mod string_fault;
+mod string_laws;
+#[cfg(test)]
+mod string_tests;
+mod strings;
 mod token;
 mod unescaped;
 
 pub use refusal::RecordTextRefusal;
+pub use string_laws::{one_string, strings_are_read, strings_hold_bytes};
 pub use unescaped::Unescaped;
