@@ -10,3 +10,11 @@ pub mod StringLoop
 pub mod StringSays
 pub mod StringSpelled
 pub mod StringLaws
+pub mod DigitTexts
+pub mod KeyLaws
+pub mod CommaItems
+pub mod KeyLists
+pub mod KeySets
+pub mod IdTexts
+pub mod AddressTexts
+pub mod AddressLists

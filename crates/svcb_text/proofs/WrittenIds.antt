@@ -7,17 +7,13 @@ use Rattle.svcb_wire.specs.Forms.{IsId, AreIds}
 use Rattle.svcb_text.specs.ValueReading.{is_escaped}
 use Rattle.svcb_text.specs.ValueGrammar.{IdPart, Plain, Escaped, IsIdPart, AreIdParts, id_part_text, id_part_byte, id_text, IsIdText, AreIdTexts, SpellsIds}
 use Rattle.svcb_text.specs.Written.{id_written}
-use Rattle.svcb_text.proofs.ClassLaws.{or_true}
+use Rattle.svcb_text.proofs.Truth.{or_true, or_false}
 
 abbrev id_part : ℕ → IdPart
 id_part b = cond (is_escaped b) (Escaped b) (Plain b)
 
 abbrev id_parts : List ℕ → List IdPart
 id_parts id = map id_part id
-
-or_false : (a b : Bool) → (a || b) ≡ false → (a ≡ false) × (b ≡ false)
-or_false true b h = cc
-or_false false b h = (refl, h)
 
 -- what is written for a byte is a part that stands for it
 record IsWrittenPart (b : ℕ) (part : IdPart) (more text : List ℕ) : Type 0 where

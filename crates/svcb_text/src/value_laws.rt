@@ -1,0 +1,17 @@
+ghost use Rattle.std.specs.Prelude.{◌≡◌, ◌≢◌, ◌<◌, ◌↔◌, ℕ, List, [], Some};
+ghost use Rattle.dns_names.specs.Names.{AreBytes};
+ghost use Rattle.field_text.specs.Runs.{AllIn};
+ghost use Rattle.svcb_wire.specs.declared.param.Param.{Param};
+ghost use Rattle.svcb_wire.specs.Forms.{HasForm};
+ghost use Rattle.svcb_wire.specs.Octets.{key_of};
+ghost use Rattle.svcb_text.specs.declared.unescaped.Unescaped.{Unescaped};
+ghost use Rattle.svcb_text.specs.KeyNames.{key_name, key_named, is_key_byte};
+ghost use Rattle.svcb_text.specs.ValueGrammar.{SpellsValue};
+ghost use Rattle.svcb_text.specs.ValueReading.{read_value};
+
+/// A text names a key exactly where it is the key's name, which is some bytes of keys' names (RFC 9460 2.1).
+pub fn keys_are_named()
+    ensures named { (text : List ℕ) (key : ℕ) → (key_named text ≡ Some key) ↔ ((text ≡ key_name key) × (key < 65536)) }
+    ensures bytes { (key : ℕ) → key < 65536 → AllIn is_key_byte (key_name key) }
+    ensures some { (key : ℕ) → key < 65536 → key_name key ≢ [] }
+{}
