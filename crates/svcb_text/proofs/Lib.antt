@@ -18,3 +18,7 @@ pub mod KeySets
 pub mod IdTexts
 pub mod AddressTexts
 pub mod AddressLists
+pub mod ListWriting
+pub mod ValueTexts
+pub mod WrittenValues
+pub mod WrittenLaws

@@ -4,7 +4,9 @@
 mod hints;
 mod ids;
 mod key_names;
+mod list_writer;
 mod mandatory;
+mod param_writer;
 mod port;
 mod quoting;
 mod refusal;
@@ -17,8 +19,14 @@ mod token;
 mod unescaped;
 mod value_laws;
 mod values;
+mod writer;
+mod written_laws;
+#[cfg(test)]
+mod written_tests;
 
 pub use refusal::RecordTextRefusal;
 pub use string_laws::{one_string, strings_are_read, strings_hold_bytes};
 pub use unescaped::Unescaped;
 pub use value_laws::keys_are_named;
+pub use writer::write;
+pub use written_laws::written_record_texts_are_read_back;
