@@ -1,20 +1,11 @@
 -- What the classes of bytes of a string hold.
-use Rattle.std.proofs.Common.{◌≡◌, ◌≢◌, ◌⊎◌, ℕ, ◌<◌, ◌≤◌, Bool, true, false, ◌||◌, nat_eq, refl, subst, arith, inl, inr}
+use Rattle.std.proofs.Common.{◌≡◌, ◌≢◌, ℕ, ◌<◌, ◌≤◌, Bool, true, false, refl, subst, arith}
 use Rattle.std.proofs.lemmas.Bool.Decides.{nat_tests}
-use Rattle.std.specs.Char.{is_ascii_digit, is_ascii_graphic}
-use Rattle.alt_base.specs.Classes.{in_ranges, contiguous_value_class, quoted_value_class}
-use Rattle.field_text.specs.BlanksGrammar.{is_blank}
 use Rattle.svcb_text.specs.declared.token.Style.{Style}
 use Rattle.svcb_text.specs.declared.token.Style.TheVariants.{Contiguous, InQuotes}
 use Rattle.svcb_text.specs.StringGrammar.{is_raw, is_escapable}
 use Rattle.svcb_text.specs.StringReading.{is_end}
-
-pub clash : {P : Type 0} (b : Bool) → b ≡ true → b ≡ false → P
-clash b t f = cc
-
-pub or_true : (a b : Bool) → (a || b) ≡ true → (a ≡ true) ⊎ (b ≡ true)
-or_true true b h = inl refl
-or_true false b h = inr h
+use Rattle.svcb_text.proofs.Truth.{clash}
 
 -- a byte that isn't in a class isn't one that is
 pub other_byte : (class : ℕ → Bool) (b n : ℕ) → class b ≡ true → class n ≡ false → b ≢ n

@@ -1,6 +1,9 @@
+pub mod Truth
 pub mod ClassLaws
 pub mod QuotingLaws
 pub mod QuotingLoop
+pub mod WrittenIds
+pub mod WrittenOrder
 pub mod TokenLaws
 pub mod StringSteps
 pub mod StringLoop
@@ -28,3 +31,7 @@ pub mod RecordSpelled
 pub mod SpelledRecords
 pub mod KeyedMap
 pub mod ReaderSteps
+pub mod ListWriting
+pub mod ValueTexts
+pub mod WrittenValues
+pub mod WrittenLaws

@@ -1,5 +1,5 @@
 -- What is written for bytes between quotes is a string of them.
-use Rattle.std.proofs.Common.{◌≡◌, ◌≢◌, ◌⊎◌, ℕ, ◌+◌, ◌/◌, ◌%◌, ◌<◌, ◌≤◌, Bool, true, false, cond, ◌&&◌, ◌||◌, nat_eq, nat_le, List, [], ◌∷◌, map, refl, sym, subst, arith, inl, inr}
+use Rattle.std.proofs.Common.{◌≡◌, ◌⊎◌, ℕ, ◌+◌, ◌/◌, ◌%◌, ◌<◌, Bool, true, false, cond, ◌&&◌, ◌||◌, nat_eq, nat_le, List, [], ◌∷◌, map, refl, sym, subst, arith, inl, inr}
 use Rattle.std.proofs.lemmas.Bool.Decides.{nat_tests}
 use Rattle.std.specs.Char.{is_ascii_digit}
 use Rattle.dns_names.specs.Names.{AreBytes}
@@ -8,7 +8,8 @@ use Rattle.dns_names.proofs.Numbers.{true_eq, false_eq, true_le}
 use Rattle.svcb_text.specs.declared.token.Style.TheVariants.{InQuotes}
 use Rattle.svcb_text.specs.StringGrammar.{IsPart, AreParts, is_escapable, string_text}
 use Rattle.svcb_text.specs.Written.{written_part, in_quotes}
-use Rattle.svcb_text.proofs.ClassLaws.{or_true, shown_raw}
+use Rattle.svcb_text.proofs.Truth.{or_true, or_false, and_true}
+use Rattle.svcb_text.proofs.ClassLaws.{shown_raw}
 
 digit_shown : (n : ℕ) → n < 10 → is_ascii_digit (48 + n) ≡ true
 digit_shown n h = grind (arith, nat_tests)
@@ -35,14 +36,6 @@ CanBeQuoted b = (is_escapable InQuotes b ≡ true) × (is_ascii_digit b ≡ fals
 quoted_mark : (b : ℕ) → (nat_eq b 34 ≡ true) ⊎ (nat_eq b 92 ≡ true) → CanBeQuoted b
 quoted_mark b (inl e) = subst CanBeQuoted (sym (true_eq b 34 e)) (refl, refl)
 quoted_mark b (inr e) = subst CanBeQuoted (sym (true_eq b 92 e)) (refl, refl)
-
-and_true : (a b : Bool) → (a && b) ≡ true → (a ≡ true) × (b ≡ true)
-and_true true b h = (refl, h)
-and_true false b h = cc
-
-or_false : (a b : Bool) → (a || b) ≡ false → (a ≡ false) × (b ≡ false)
-or_false true b h = cc
-or_false false b h = (refl, h)
 
 raw_part : (b : ℕ) → (nat_eq b 34 || nat_eq b 92) ≡ false → (nat_le 32 b && nat_le b 126) ≡ true → IsPart InQuotes (Raw b)
 raw_part b mark shown =

@@ -1,12 +1,12 @@
 -- What the reading of a string says is what its grammar says.
-use Rattle.std.proofs.Common.{◌≡◌, ◌⊎◌, ℕ, ◌+◌, ◌<◌, ◌≤◌, List, [], ◌∷◌, ◌++◌, length, map, Result, Ok, Err, ap, sym, ◌∙◌, subst, arith, inl, inr}
+use Rattle.std.proofs.Common.{◌≡◌, ◌⊎◌, ℕ, ◌+◌, ◌<◌, ◌≤◌, List, [], ◌∷◌, ◌++◌, length, map, Ok, Err, ap, sym, ◌∙◌, subst, arith, inl, inr}
 use Rattle.std.proofs.lemmas.List.{length-append}
 use Rattle.dns_names.specs.Names.{AreBytes}
 use Rattle.dns_names.specs.TextParts.{Part, Raw, Quoted, Decimal, part_byte, parts_text}
 use Rattle.svcb_text.specs.declared.token.Style.{Style}
 use Rattle.svcb_text.specs.declared.token.Style.TheVariants.{InQuotes}
 use Rattle.svcb_text.specs.declared.unescaped.Unescaped.{Unescaped}
-use Rattle.svcb_text.specs.StringGrammar.{IsPart, AreParts, opening, string_text, SpellsString, StringGoesOn, IsWrongByte, IsWrongEscape, IsOpenQuote, IsByteBehindQuote, StringRefusedAt, OneString}
+use Rattle.svcb_text.specs.StringGrammar.{IsPart, AreParts, opening, string_text, SpellsString, StringGoesOn, StringRefusedAt, OneString}
 use Rattle.svcb_text.specs.StringReading.{StringAnswer, read_string}
 use Rattle.svcb_text.proofs.ClassLaws.{raw_bound, escapable_bound}
 use Rattle.svcb_text.proofs.StringSays.{StringSays, string_says}

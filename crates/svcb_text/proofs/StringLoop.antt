@@ -1,5 +1,5 @@
 -- What the loop over the tokens of a string keeps.
-use Rattle.std.proofs.Common.{◌≡◌, ◌≢◌, ◌≤◌, ℕ, suc, ◌+◌, Bool, true, false, ◌&&◌, nat_eq, List, [], ◌∷◌, ◌++◌, length, drop, Result, Ok, Err, refl, ap, sym, ◌∙◌, subst, arith}
+use Rattle.std.proofs.Common.{◌≡◌, ◌≤◌, ℕ, ◌+◌, Bool, true, false, ◌&&◌, nat_eq, List, [], ◌∷◌, ◌++◌, length, drop, refl, sym, ◌∙◌, subst, arith}
 use Rattle.std.proofs.lemmas.List.{length-drop, drop-drop}
 use Rattle.dns_names.proofs.Numbers.{eq_true, eq_false}
 use Rattle.svcb_text.specs.declared.token.Style.{Style}
@@ -8,8 +8,9 @@ use Rattle.svcb_text.specs.declared.token.Token.{Token}
 use Rattle.svcb_text.specs.declared.token.Token.TheVariants as token
 use Rattle.svcb_text.specs.declared.unescaped.Unescaped.{Unescaped}
 use Rattle.svcb_text.specs.StringGrammar.{opening, BeginsStyle}
-use Rattle.svcb_text.specs.StringReading.{StringAnswer, token_at, string_ends, with_byte, read_string}
-use Rattle.svcb_text.proofs.TokenLaws.{BeginsPart, EndSays, TokenSays, token_says}
+use Rattle.svcb_text.specs.StringReading.{token_at, with_byte, read_string}
+use Rattle.svcb_text.proofs.Truth.{and_end, and_none}
+use Rattle.svcb_text.proofs.TokenLaws.{BeginsPart, TokenSays, token_says}
 use Rattle.svcb_text.proofs.StringSteps.{part_size, reads, reads_token}
 
 abbrev pub value_of : List ℕ → Bool → Unescaped
@@ -30,9 +31,6 @@ begins_reads (b ∷ bs) InQuotes h =
     let is : nat_eq b 34 ≡ true = eq_true b 34 h in
     record { within = omega arith; same = rw is refl }
 
-pub nothing_read : (text : List ℕ) (style : Style) (start : ℕ) → BeginsStyle style text → start ≡ length (opening style) → StringRead text style [] true start
-nothing_read text style start h is = subst (λ n. StringRead text style [] true n) (sym is) (begins_reads text style h)
-
 token_there : (style : Style) (text rest : List ℕ) (place : ℕ) (t : Token) → rest ≡ drop place text → token_at style rest ≡ t → token_at style (drop place text) ≡ t
 token_there style text rest place t is found = subst (λ xs. token_at style xs ≡ t) is found
 
@@ -49,56 +47,22 @@ byte_on text style bytes new plain still place byte count raw says on pushed is 
       same = rw (pushed, is, ← drop-drop count place text) (sym on ∙ read.same);
     }
 
-and_true : (a : Bool) → a ≡ (a && true)
-and_true true = refl
-and_true false = refl
-
-and_false : (a : Bool) → false ≡ (a && false)
-and_false true = refl
-and_false false = refl
-
 -- a byte on that stands for itself
 pub raw_read : (text rest : List ℕ) (style : Style) (bytes new : List ℕ) (plain : Bool) (place byte : ℕ) → rest ≡ drop place text → token_at style rest ≡ token.Raw byte → new ≡ bytes ++ byte ∷ []
     → StringRead text style bytes plain place → StringRead text style new plain (place + 1)
 raw_read text rest style bytes new plain place byte is found pushed read =
     byte_on text style bytes new plain plain place byte 1 true (says_there style text rest place _ is found)
-    (reads_token (token.Raw byte) style (value_of bytes plain) place (drop place text) (token_there style text rest place _ is found)) pushed (and_true plain) read
+    (reads_token (token.Raw byte) style (value_of bytes plain) place (drop place text) (token_there style text rest place _ is found)) pushed (sym (and_end plain)) read
 
 -- a byte on behind a backslash
 pub escaped_read : (text rest : List ℕ) (style : Style) (bytes new : List ℕ) (plain : Bool) (place byte count : ℕ) → rest ≡ drop place text → token_at style rest ≡ token.Escaped byte count → new ≡ bytes ++ byte ∷ []
     → StringRead text style bytes plain place → StringRead text style new false (place + count)
 escaped_read text rest style bytes new plain place byte count is found pushed read =
     byte_on text style bytes new plain false place byte count false (says_there style text rest place _ is found)
-    (reads_token (token.Escaped byte count) style (value_of bytes plain) place (drop place text) (token_there style text rest place _ is found)) pushed (and_false plain) read
+    (reads_token (token.Escaped byte count) style (value_of bytes plain) place (drop place text) (token_there style text rest place _ is found)) pushed (sym (and_none plain)) read
 
 -- how far a byte is on
-pub raw_size : (text rest : List ℕ) (style : Style) (place byte : ℕ) → place ≤ length text → rest ≡ drop place text → token_at style rest ≡ token.Raw byte → place + 1 ≤ length text
-raw_size text rest style place byte within is found =
-    let size = part_size style (drop place text) byte 1 true (says_there style text rest place _ is found) in
-    omega (arith, size.1, length-drop place text, within)
-
 pub escaped_size : (text rest : List ℕ) (style : Style) (place byte count : ℕ) → place ≤ length text → rest ≡ drop place text → token_at style rest ≡ token.Escaped byte count → (1 ≤ count) × (place + count ≤ length text)
 escaped_size text rest style place byte count within is found =
     let size = part_size style (drop place text) byte count false (says_there style text rest place _ is found) in
     (size.0, omega (arith, size.1, length-drop place text, within))
-
--- the string ends
-pub end_read : (text rest : List ℕ) (style : Style) (bytes : List ℕ) (plain : Bool) (place : ℕ) → rest ≡ drop place text → token_at style rest ≡ token.End → StringRead text style bytes plain place → string_ends style (value_of bytes plain) place (drop place text) ≡ read_string text
-end_read text rest style bytes plain place is found read =
-    sym (reads_token token.End style (value_of bytes plain) place (drop place text) (token_there style text rest place _ is found)) ∙ read.same
-
-room_by : (style : Style) (x : List ℕ) → EndSays style x → length (opening style) ≤ length x
-room_by Contiguous x says = omega arith
-room_by InQuotes [] says = cc
-room_by InQuotes (b ∷ bs) says = omega arith
-
--- and its closing quote stands there
-pub end_room : (text rest : List ℕ) (style : Style) (place : ℕ) → place ≤ length text → rest ≡ drop place text → token_at style rest ≡ token.End → length (opening style) + place ≤ length text
-end_room text rest style place within is found =
-    let room = room_by style (drop place text) (says_there style text rest place _ is found) in
-    omega (arith, room, length-drop place text, within)
-
--- what follows is refused
-pub wrong_read : (text rest : List ℕ) (style : Style) (bytes : List ℕ) (plain : Bool) (place : ℕ) → rest ≡ drop place text → token_at style rest ≡ token.Wrong → StringRead text style bytes plain place → read_string text ≡ Err place
-wrong_read text rest style bytes plain place is found read =
-    sym read.same ∙ reads_token token.Wrong style (value_of bytes plain) place (drop place text) (token_there style text rest place _ is found)

@@ -1,5 +1,5 @@
 -- The reading of a string against its grammar.
-use Rattle.std.proofs.Common.{◌≡◌, ◌⊎◌, ℕ, zero, suc, ◌+◌, ◌<◌, Bool, true, false, cond, ◌&&◌, nat_eq, List, [], ◌∷◌, ◌++◌, length, drop, map, Result, Ok, Err, refl, ap, sym, ◌∙◌, subst, arith, inl, inr}
+use Rattle.std.proofs.Common.{◌≡◌, ℕ, zero, suc, ◌+◌, ◌<◌, Bool, true, false, cond, ◌&&◌, nat_eq, List, [], ◌∷◌, ◌++◌, length, drop, Ok, Err, refl, ap, sym, ◌∙◌, subst, arith, inl, inr}
 use Rattle.std.proofs.lemmas.List.{append_assoc, length-append, drop_at, map_push}
 use Rattle.std.specs.List.{list_all}
 use Rattle.field_text.specs.BlanksGrammar.{is_blank}
@@ -14,8 +14,8 @@ use Rattle.svcb_text.specs.declared.token.Token.TheVariants as token
 use Rattle.svcb_text.specs.declared.unescaped.Unescaped.{Unescaped}
 use Rattle.svcb_text.specs.StringGrammar.{IsPart, AreParts, opening, string_text, is_raw_part, meant, EndsItem, SpellsString, BeginsStyle, StringGoesOn, EndsNone, StringRefusedAt}
 use Rattle.svcb_text.specs.StringReading.{StringAnswer, is_end, with_end, string_ends, with_byte, token_at, read_by, read_tokens, read_string}
-use Rattle.svcb_text.proofs.TokenLaws.{IsBadByte, IsBadEscape, IsOpen, WrongSays, BadByte, BadEscape, Open, EndSays, BeginsPart, TokenSays, token_says}
-use Rattle.svcb_text.proofs.StringSteps.{part_size}
+use Rattle.svcb_text.proofs.Truth.{and_end, and_assoc}
+use Rattle.svcb_text.proofs.TokenLaws.{WrongSays, BadByte, BadEscape, Open, EndSays, BeginsPart, TokenSays, token_says}
 
 -- what an answer says
 abbrev pub StringSays : List ℕ → StringAnswer → Type 0
@@ -51,17 +51,9 @@ part_behind x style parts part more behind valid = record {
   text = behind.text ∙ ap (λ xs. opening style ++ xs) (sym (append_assoc (parts_text parts) (part_text part) more) ∙ ap (λ xs. xs ++ more) (sym (parts_push parts part)));
 }
 
-and_assoc : (a b c : Bool) → (a && (b && c)) ≡ ((a && b) && c)
-and_assoc true b c = refl
-and_assoc false b c = refl
-
-and_end : (a : Bool) → (a && true) ≡ a
-and_end true = refl
-and_end false = refl
-
 raw_push : (parts : List Part) (part : Part) → list_all is_raw_part (parts ++ part ∷ []) ≡ (list_all is_raw_part parts && is_raw_part part)
 raw_push [] part = and_end (is_raw_part part)
-raw_push (first ∷ parts) part = ap (λ t. is_raw_part first && t) (raw_push parts part) ∙ and_assoc (is_raw_part first) (list_all is_raw_part parts) (is_raw_part part)
+raw_push (first ∷ parts) part = ap (λ t. is_raw_part first && t) (raw_push parts part) ∙ sym (and_assoc (is_raw_part first) (list_all is_raw_part parts) (is_raw_part part))
 
 pub same_value : (bytes bytes' : List ℕ) (plain plain' : Bool) → bytes ≡ bytes' → plain ≡ plain' → (let a : Unescaped = record { bytes = bytes; plain = plain } in a) ≡ (let b : Unescaped = record { bytes = bytes'; plain = plain' } in b)
 same_value bytes bytes' plain plain' e f = rw (e, f) refl

@@ -1,5 +1,5 @@
 -- What the grammar of a string says is what is read.
-use Rattle.std.proofs.Common.{◌≡◌, ◌≢◌, ℕ, ◌+◌, ◌<◌, ◌≤◌, Bool, true, false, cond, ◌&&◌, nat_eq, List, [], ◌∷◌, ◌++◌, length, drop, map, Result, Ok, Err, refl, ap, sym, ◌∙◌, subst, arith}
+use Rattle.std.proofs.Common.{◌≡◌, ℕ, ◌+◌, true, false, ◌&&◌, nat_eq, List, [], ◌∷◌, ◌++◌, length, drop, map, Ok, Err, refl, ap, sym, ◌∙◌, subst, arith}
 use Rattle.std.proofs.lemmas.List.{append_assoc, append-nil, length-append, drop_at}
 use Rattle.std.specs.List.{list_all}
 use Rattle.field_text.specs.BlanksGrammar.{is_blank}
@@ -10,12 +10,13 @@ use Rattle.svcb_text.specs.declared.token.Style.TheVariants.{Contiguous, InQuote
 use Rattle.svcb_text.specs.declared.token.Token.TheVariants as token
 use Rattle.svcb_text.specs.declared.unescaped.Unescaped.{Unescaped}
 use Rattle.svcb_text.specs.StringGrammar.{is_raw, IsPart, AreParts, opening, is_raw_part, meant, EndsItem, SpellsString, BeginsStyle, StringGoesOn, EndsNone, IsWrongByte, IsWrongEscape, IsOpenQuote, IsByteBehindQuote}
-use Rattle.svcb_text.specs.StringReading.{StringAnswer, is_end, with_end, with_byte, token_at, no_bytes, read_string}
-use Rattle.svcb_text.proofs.ClassLaws.{clash, other_byte}
+use Rattle.svcb_text.specs.StringReading.{StringAnswer, is_end, with_end, with_byte, no_bytes, read_string}
+use Rattle.svcb_text.proofs.Truth.{clash, and_end, and_assoc}
+use Rattle.svcb_text.proofs.ClassLaws.{other_byte}
 use Rattle.svcb_text.proofs.TokenLaws.{token_part, token_bad_byte, token_bad_escape}
 use Rattle.svcb_text.proofs.StringSteps.{reads, reads_token}
 use Rattle.svcb_text.proofs.StringLoop.{begins_reads}
-use Rattle.svcb_text.proofs.StringSays.{Behind, size_of, goes_on, same_value, closed_text, closed_size}
+use Rattle.svcb_text.proofs.StringSays.{Behind, size_of, same_value, closed_text, closed_size}
 
 same_reads : (style : Style) (v v' : Unescaped) (n n' : ℕ) (x x' : List ℕ) → v ≡ v' → n ≡ n' → x ≡ x' → reads style v n x ≡ reads style v' n' x'
 same_reads style v v' n n' x x' e f g = cc
@@ -35,18 +36,10 @@ one_part style value count part more valid =
 abbrev with_parts : Unescaped → List Part → Unescaped
 with_parts value parts = record { bytes = value.bytes ++ map part_byte parts; plain = value.plain && list_all is_raw_part parts }
 
-and_end : (a : Bool) → a ≡ (a && true)
-and_end true = refl
-and_end false = refl
-
-and_assoc : (a b c : Bool) → ((a && b) && c) ≡ (a && (b && c))
-and_assoc true b c = refl
-and_assoc false b c = refl
-
 -- parts are passed over
 parts_pass : (style : Style) (parts : List Part) (value : Unescaped) (count : ℕ) (rest : List ℕ) → AreParts style parts
     → reads style value count (parts_text parts ++ rest) ≡ reads style (with_parts value parts) (count + length (parts_text parts)) rest
-parts_pass style [] value count rest valid = same_reads style _ _ _ _ rest rest (same_value _ _ _ _ (sym (append-nil value.bytes)) (and_end value.plain)) (omega arith) refl
+parts_pass style [] value count rest valid = same_reads style _ _ _ _ rest rest (same_value _ _ _ _ (sym (append-nil value.bytes)) (sym (and_end value.plain))) (omega arith) refl
 parts_pass style (part ∷ parts) value count rest valid =
     let size : length (parts_text (part ∷ parts)) ≡ length (part_text part) + length (parts_text parts) = length-append (part_text part) (parts_text parts) in
     same_reads style value value count count _ _ refl refl (append_assoc (part_text part) (parts_text parts) rest)

@@ -1,15 +1,16 @@
 -- What a token of a string says, and which token a part is.
-use Rattle.std.proofs.Common.{◌≡◌, ◌≢◌, ℕ, Bool, true, false, cond, ◌&&◌, nat_eq, nat_le, List, [], ◌∷◌, ◌++◌, length, refl, ap, sym, ◌∙◌, subst}
+use Rattle.std.proofs.Common.{◌≡◌, ◌≢◌, ℕ, Bool, true, false, cond, ◌&&◌, nat_eq, nat_le, List, [], ◌∷◌, ◌++◌, length, refl, sym, ◌∙◌, subst}
 use Rattle.std.specs.Char.{is_ascii_digit}
 use Rattle.dns_names.specs.TextParts.{Part, Raw, Quoted, Decimal, part_text, part_byte, decimal_value}
-use Rattle.dns_names.proofs.Numbers.{eq_true, eq_false, true_eq, false_eq, le_true, true_le}
+use Rattle.dns_names.proofs.Numbers.{eq_false, true_eq, false_eq, le_true, true_le}
 use Rattle.svcb_text.specs.declared.token.Style.{Style}
 use Rattle.svcb_text.specs.declared.token.Style.TheVariants.{Contiguous, InQuotes}
 use Rattle.svcb_text.specs.declared.token.Token.{Token}
 use Rattle.svcb_text.specs.declared.token.Token.TheVariants as token
 use Rattle.svcb_text.specs.StringGrammar.{is_raw, is_escapable, IsPart, is_raw_part}
 use Rattle.svcb_text.specs.StringReading.{is_decimal, decimal_at, escape_at, is_end, token_at_end, token_at}
-use Rattle.svcb_text.proofs.ClassLaws.{clash, raw_no_backslash, raw_no_end}
+use Rattle.svcb_text.proofs.Truth.{clash, and_true}
+use Rattle.svcb_text.proofs.ClassLaws.{raw_no_backslash, raw_no_end}
 
 -- a backslash with this rest begins no part
 abbrev pub NoPart : Style → List ℕ → Type 0
@@ -60,10 +61,6 @@ TokenSays style x token.End = EndSays style x
 TokenSays style x (token.Raw byte) = BeginsPart style x byte 1 true
 TokenSays style x (token.Escaped byte count) = BeginsPart style x byte count false
 TokenSays style x token.Wrong = WrongSays style x
-
-and_true : (a b : Bool) → (a && b) ≡ true → (a ≡ true) × (b ≡ true)
-and_true true b h = (refl, h)
-and_true false b h = cc
 
 all_true : (a b c : ℕ) → is_decimal a b c ≡ true → (is_ascii_digit b ≡ true) × (is_ascii_digit c ≡ true) × (nat_le (decimal_value a b c) 255 ≡ true)
 all_true a b c h =

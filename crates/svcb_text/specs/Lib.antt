@@ -10,3 +10,4 @@ pub mod TextGrammar
 pub mod TextRefusals
 pub mod TextReading
 pub mod Written
+pub mod Commas

@@ -4,7 +4,6 @@ use Rattle.std.specs.List.{list_all}
 use Rattle.std.specs.Char.{is_ascii_digit, is_ascii_graphic}
 use Rattle.alt_base.specs.Classes.{in_ranges, contiguous_value_class, quoted_value_class}
 use Rattle.field_text.specs.BlanksGrammar.{is_blank}
-use Rattle.field_text.specs.Runs.{BeginsIn}
 use Rattle.dns_names.specs.TextParts.{Part, Raw, Quoted, Decimal, decimal_value, part_byte, part_text, parts_text}
 use Rattle.svcb_text.specs.declared.token.Style.{Style}
 use Rattle.svcb_text.specs.declared.token.Style.TheVariants.{Contiguous, InQuotes}

@@ -1,17 +1,13 @@
 -- Reading a value's string, token by token.
-use Rattle.std.specs.Prelude.{ℕ, zero, suc, ◌+◌, Bool, true, false, ◌&&◌, nat_eq, nat_le, if◌then◌else◌, List, [], ◌∷◌, ◌++◌, length, drop, Option, Some, None, Result, Ok, Err}
+use Rattle.std.specs.Prelude.{ℕ, zero, suc, ◌+◌, Bool, true, false, ◌&&◌, nat_eq, nat_le, if◌then◌else◌, List, [], ◌∷◌, ◌++◌, length, drop, Result, Ok, Err}
 use Rattle.std.specs.Char.{is_ascii_digit}
 use Rattle.field_text.specs.BlanksGrammar.{is_blank}
 use Rattle.dns_names.specs.TextParts.{decimal_value}
-use Rattle.alt_base.specs.declared.refusal.At.{At}
-use Rattle.svcb_text.specs.declared.refusal.RecordTextRefusal.{RecordTextRefusal}
-use Rattle.svcb_text.specs.declared.refusal.RecordTextRefusal.TheVariants.{BadString}
 use Rattle.svcb_text.specs.declared.token.Style.{Style}
 use Rattle.svcb_text.specs.declared.token.Style.TheVariants.{Contiguous, InQuotes}
 use Rattle.svcb_text.specs.declared.token.Token.{Token}
 use Rattle.svcb_text.specs.declared.token.Token.TheVariants as token
 use Rattle.svcb_text.specs.declared.unescaped.Unescaped.{Unescaped}
-use Rattle.svcb_text.specs.Answers.{refused}
 use Rattle.svcb_text.specs.StringGrammar.{is_raw, is_escapable}
 
 -- two more digits, and all three of a byte's value
