@@ -5,7 +5,7 @@ use Rattle.std.specs.Str.Parse.{AllDigits}
 use Rattle.std.specs.Net.Text.{dotted_text}
 use Rattle.std.specs.Net.Grammar.{IsDotted, IsColonHex, IsGroupsAfter}
 use Rattle.std.proofs.lemmas.Fmt.{decimal_is_IsNumeral}
-use Rattle.svcb_wire.proofs.Numbers.{true_eq}
+use Rattle.alt_base.proofs.Numbers.{true_eq}
 use Rattle.origin_values.specs.HostGrammar.{SpellsV4, SpellsV6}
 use Rattle.svcb_text.proofs.CommaItems.{NoComma}
 

@@ -9,10 +9,11 @@ use Rattle.std.specs.Str.Parse.{AllDigits, IsNumeral, digits_value, digits_value
 use Rattle.std.proofs.lemmas.Fmt.{decimal-digits_value, decimal_is_IsNumeral, decimal_digit, first_decimal, length-decimal-le}
 use Rattle.std.proofs.lemmas.Int.Digits.{digits_value-lt}
 use Rattle.std.proofs.lemmas.Str.Parse.{IsNumeralModel, numerals_by_value, tells_digits}
-use Rattle.origin_values.proofs.Comparisons.{both, le_from_test, test_from_le}
+use Rattle.origin_values.proofs.Comparisons.{le_from_test, test_from_le}
+use Rattle.alt_base.proofs.Conjunctions.{both}
 use Rattle.origin_values.proofs.Names.{digits_pass}
 use Rattle.origin_values.proofs.Ports.{digit_code, value_of_digit}
-use Rattle.svcb_wire.proofs.Numbers.{eq_true}
+use Rattle.alt_base.proofs.Numbers.{eq_true}
 use Rattle.svcb_text.specs.KeyNames.{number_of, is_text}
 use Rattle.svcb_text.specs.ValueGrammar.{SpellsPort}
 use Rattle.svcb_text.specs.ValueReading.{read_port}

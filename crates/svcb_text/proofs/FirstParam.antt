@@ -9,13 +9,13 @@ use Rattle.field_text.specs.Runs.{AllIn, run_of, after_run, IsLongestRun}
 use Rattle.field_text.proofs.RunLemmas.{longest_run}
 use Rattle.svcb_wire.specs.declared.param.Param.{Param}
 use Rattle.svcb_wire.specs.Usable.{has_key}
-use Rattle.svcb_wire.proofs.Bytes.{bytes_front, bytes_back}
-use Rattle.svcb_wire.proofs.Numbers.{true_eq}
+use Rattle.dns_names.proofs.Bytes.{bytes_front, bytes_back}
+use Rattle.alt_base.proofs.Numbers.{true_eq}
 use Rattle.svcb_text.specs.declared.refusal.RecordTextRefusal.{RecordTextRefusal}
 use Rattle.svcb_text.specs.declared.refusal.RecordTextRefusal.TheVariants.{BadPriority, BadTarget, BadKey, RepeatedKey, BadString, BadValue, Inconsistent, TooLong}
 use Rattle.svcb_text.specs.declared.token.Style.{Style}
 use Rattle.svcb_text.specs.declared.unescaped.Unescaped.{Unescaped}
-use Rattle.svcb_text.specs.Answers.{refused}
+use Rattle.alt_base.specs.Answers.{refused}
 use Rattle.svcb_text.specs.KeyNames.{is_key_byte, key_name, key_named}
 use Rattle.svcb_text.specs.StringGrammar.{EndsItem, SpellsString, StringRefusedAt, AreParts, string_text, meant}
 use Rattle.svcb_text.specs.StringReading.{StringAnswer, read_string, no_bytes}

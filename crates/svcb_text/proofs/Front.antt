@@ -17,7 +17,7 @@ use Rattle.dns_names.specs.TextGrammar.{JoinsLabels, SpellsText}
 use Rattle.dns_names.specs.TextParts.{Part, Raw, Quoted, Decimal, part_text, parts_text, IsPart, AreParts, dotted, AreAllParts}
 use Rattle.dns_names.specs.TextReading.{read_text}
 use Rattle.dns_names.proofs.TextSpelled.{spelled_reads as name_reads}
-use Rattle.svcb_wire.proofs.Numbers.{eq_false, lt_false}
+use Rattle.alt_base.proofs.Numbers.{eq_false, lt_false}
 use Rattle.svcb_text.specs.declared.refusal.RecordTextRefusal.{RecordTextRefusal}
 use Rattle.svcb_text.specs.StringGrammar.{EndsItem}
 use Rattle.svcb_text.specs.TextGrammar.{AreBlanks, SpellsPriority, Front, front_text, SpellsFront}

@@ -6,7 +6,7 @@ use Rattle.std.specs.Str.Parse.{AllDigits}
 use Rattle.std.proofs.lemmas.Bool.Decides.{nat_tests}
 use Rattle.std.proofs.lemmas.Fmt.{decimal_is_IsNumeral}
 use Rattle.field_text.specs.Runs.{AllIn}
-use Rattle.svcb_wire.proofs.Numbers.{true_eq, false_eq, eq_false}
+use Rattle.alt_base.proofs.Numbers.{true_eq, false_eq, eq_false}
 use Rattle.svcb_text.specs.KeyNames.{key_name, key_named, is_key_byte, is_text, number_of, numbered_key, unnamed}
 use Rattle.svcb_text.proofs.DigitTexts.{number_is, number_read}
 

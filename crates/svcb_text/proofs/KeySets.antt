@@ -6,7 +6,7 @@ use Rattle.std.specs.declared.cmp.Ordering.TheVariants.{Less, Equal, Greater}
 use Rattle.std.specs.BTreeMap.{is_at}
 use Rattle.std.specs.BTreeSet.{insert_key}
 use Rattle.std.proofs.lemmas.Bool.Decides.{nat_tests}
-use Rattle.svcb_wire.proofs.Numbers.{eq_false}
+use Rattle.alt_base.proofs.Numbers.{eq_false}
 use Rattle.svcb_text.specs.KeyNames.{key_named}
 use Rattle.svcb_text.specs.ParamOrder.{placed_key}
 use Rattle.svcb_text.specs.ValueReading.{items_of, has_number, with_key, then_keys, keys_beside, read_keys}

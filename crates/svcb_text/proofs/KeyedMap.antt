@@ -7,7 +7,7 @@ use Rattle.std.specs.Ordering.{nat_cmp, is_eq}
 use Rattle.svcb_wire.specs.declared.param.Param.{Param}
 use Rattle.svcb_wire.specs.Octets.{key_of}
 use Rattle.svcb_wire.specs.Usable.{has_key}
-use Rattle.svcb_wire.proofs.Numbers.{eq_true, eq_false, true_eq, false_eq, lt_true, lt_false, true_lt, false_lt}
+use Rattle.alt_base.proofs.Numbers.{eq_true, eq_false, true_eq, false_eq, lt_true, lt_false, true_lt, false_lt}
 use Rattle.svcb_text.specs.ParamOrder.{AreKeyed, placed}
 
 abbrev Entries : Type 0

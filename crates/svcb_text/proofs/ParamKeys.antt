@@ -5,7 +5,7 @@ use Rattle.svcb_wire.specs.declared.param.Param.{Param}
 use Rattle.svcb_wire.specs.Octets.{key_of, value_of, param_octets, params_octets}
 use Rattle.svcb_wire.specs.Forms.{HasForm, AreParams}
 use Rattle.svcb_wire.specs.Usable.{has_key}
-use Rattle.svcb_wire.proofs.Numbers.{eq_false, false_eq, true_lt, false_lt}
+use Rattle.alt_base.proofs.Numbers.{eq_false, false_eq, true_lt, false_lt}
 use Rattle.svcb_text.specs.ParamOrder.{IsNew, AreDistinct, placed, all_placed, keys_of}
 
 -- each parameter's key is new, when it is placed among those before it

@@ -10,7 +10,7 @@ use Rattle.field_text.proofs.RunLemmas.{longest_run}
 use Rattle.svcb_wire.specs.declared.param.Param.{Param}
 use Rattle.svcb_wire.specs.Octets.{key_of}
 use Rattle.svcb_wire.specs.Usable.{has_key}
-use Rattle.svcb_wire.proofs.Bytes.{bytes_back}
+use Rattle.dns_names.proofs.Bytes.{bytes_back}
 use Rattle.svcb_text.specs.declared.refusal.RecordTextRefusal.{RecordTextRefusal}
 use Rattle.svcb_text.specs.ParamOrder.{placed, all_placed}
 use Rattle.svcb_text.specs.StringGrammar.{EndsItem}

@@ -4,7 +4,7 @@ use Rattle.std.proofs.lemmas.Bool.Decides.{nat_tests}
 use Rattle.std.specs.Char.{is_ascii_digit}
 use Rattle.dns_names.specs.Names.{AreBytes}
 use Rattle.dns_names.specs.TextParts.{Part, Raw, Quoted, Decimal, decimal_value, part_byte}
-use Rattle.dns_names.proofs.Numbers.{true_eq, false_eq, true_le}
+use Rattle.alt_base.proofs.Numbers.{true_eq, false_eq, true_le}
 use Rattle.svcb_text.specs.declared.token.Style.TheVariants.{InQuotes}
 use Rattle.svcb_text.specs.StringGrammar.{IsPart, AreParts, is_escapable, string_text}
 use Rattle.svcb_text.specs.Written.{written_part, in_quotes}

@@ -22,7 +22,7 @@ use Rattle.svcb_wire.specs.Octets.{key_of}
 use Rattle.svcb_wire.specs.Usable.{has_key}
 use Rattle.svcb_text.specs.declared.refusal.RecordTextRefusal.{RecordTextRefusal}
 use Rattle.svcb_text.specs.declared.refusal.RecordTextRefusal.TheVariants.{BadPriority, BadTarget, BadKey, RepeatedKey}
-use Rattle.svcb_text.specs.Answers.{refused, Answers}
+use Rattle.alt_base.specs.Answers.{refused, Answers}
 use Rattle.svcb_text.specs.KeyNames.{is_key_byte, key_named}
 use Rattle.svcb_text.specs.ParamOrder.{AreKeyed, placed}
 use Rattle.svcb_text.specs.TextReading.{ParamAnswer, ParamsAnswer, RecordAnswer, ends_key, behind_key, by_key, first_param, by_param, params_from, params_behind, read_params, finish, with_params, item_of, after_item, by_target, behind_priority, priority_of, by_priority, from_priority}

@@ -16,11 +16,11 @@ use Rattle.svcb_wire.specs.declared.param.Param.{Param}
 use Rattle.svcb_wire.specs.declared.svcb.Svcb.{Svcb}
 use Rattle.svcb_wire.specs.Records.{record_octets}
 use Rattle.svcb_wire.specs.Usable.{has_key, is_consistent}
-use Rattle.svcb_wire.proofs.Bytes.{bytes_back}
-use Rattle.svcb_wire.proofs.Numbers.{true_eq, true_lt, false_lt}
+use Rattle.dns_names.proofs.Bytes.{bytes_back}
+use Rattle.alt_base.proofs.Numbers.{true_eq, true_lt, false_lt}
 use Rattle.svcb_text.specs.declared.refusal.RecordTextRefusal.{RecordTextRefusal}
 use Rattle.svcb_text.specs.declared.refusal.RecordTextRefusal.TheVariants.{BadPriority, BadTarget, BadKey, RepeatedKey, BadString, BadValue, Inconsistent, TooLong}
-use Rattle.svcb_text.specs.Answers.{refused, Answers, IfRefused}
+use Rattle.alt_base.specs.Answers.{refused, Answers, IfRefused}
 use Rattle.svcb_text.specs.KeyNames.{key_name}
 use Rattle.svcb_text.specs.ParamOrder.{all_placed}
 use Rattle.svcb_text.specs.StringGrammar.{EndsItem}

@@ -11,11 +11,11 @@ use Rattle.svcb_wire.specs.declared.param.Param.{Param}
 use Rattle.svcb_wire.specs.declared.svcb.Svcb.{Svcb}
 use Rattle.svcb_wire.specs.Records.{record_octets}
 use Rattle.svcb_wire.specs.Usable.{has_key, is_consistent}
-use Rattle.svcb_wire.proofs.Bytes.{bytes_back}
-use Rattle.svcb_wire.proofs.Numbers.{eq_true, lt_true, lt_false, true_eq}
+use Rattle.dns_names.proofs.Bytes.{bytes_back}
+use Rattle.alt_base.proofs.Numbers.{eq_true, lt_true, lt_false, true_eq}
 use Rattle.svcb_text.specs.declared.refusal.RecordTextRefusal.{RecordTextRefusal}
 use Rattle.svcb_text.specs.declared.refusal.RecordTextRefusal.TheVariants.{BadPriority, BadTarget, BadKey, RepeatedKey, BadString, BadValue, Inconsistent, TooLong}
-use Rattle.svcb_text.specs.Answers.{refused}
+use Rattle.alt_base.specs.Answers.{refused}
 use Rattle.svcb_text.specs.KeyNames.{is_key_byte, key_name}
 use Rattle.svcb_text.specs.ParamOrder.{IsNew, all_placed, in_order, keys_of}
 use Rattle.svcb_text.specs.TextGrammar.{front_text, spaced_texts, HasForm, IsAllowed, SpellsRecordText}

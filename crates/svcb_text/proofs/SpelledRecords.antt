@@ -10,9 +10,9 @@ use Rattle.svcb_wire.specs.declared.svcb.Svcb.{Svcb}
 use Rattle.svcb_wire.specs.Forms.{AreParams}
 use Rattle.svcb_wire.specs.Octets.{params_octets}
 use Rattle.svcb_wire.specs.Records.{IsRecord}
-use Rattle.svcb_wire.proofs.Bytes.{bytes_back}
+use Rattle.dns_names.proofs.Bytes.{bytes_back}
 use Rattle.svcb_text.specs.declared.refusal.RecordTextRefusal.{RecordTextRefusal}
-use Rattle.svcb_text.specs.Answers.{Answers}
+use Rattle.alt_base.specs.Answers.{Answers}
 use Rattle.svcb_text.specs.ParamOrder.{in_order}
 use Rattle.svcb_text.specs.StringGrammar.{EndsItem}
 use Rattle.svcb_text.specs.TextGrammar.{given_key, given_head, given_string, given_value, front_text, Spaced, spaced_texts, SpellEach, SpellsRecordText}

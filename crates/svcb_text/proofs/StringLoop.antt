@@ -1,7 +1,7 @@
 -- What the loop over the tokens of a string keeps.
 use Rattle.std.proofs.Common.{◌≡◌, ◌≤◌, ℕ, ◌+◌, Bool, true, false, ◌&&◌, nat_eq, List, [], ◌∷◌, ◌++◌, length, drop, refl, sym, ◌∙◌, subst, arith}
 use Rattle.std.proofs.lemmas.List.{length-drop, drop-drop}
-use Rattle.dns_names.proofs.Numbers.{eq_true, eq_false}
+use Rattle.alt_base.proofs.Numbers.{eq_true, eq_false}
 use Rattle.svcb_text.specs.declared.token.Style.{Style}
 use Rattle.svcb_text.specs.declared.token.Style.TheVariants.{Contiguous, InQuotes}
 use Rattle.svcb_text.specs.declared.token.Token.{Token}

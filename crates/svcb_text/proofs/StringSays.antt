@@ -4,7 +4,7 @@ use Rattle.std.proofs.lemmas.List.{append_assoc, length-append, drop_at, map_pus
 use Rattle.std.specs.List.{list_all}
 use Rattle.field_text.specs.BlanksGrammar.{is_blank}
 use Rattle.dns_names.specs.TextParts.{Part, part_byte, part_text, parts_text}
-use Rattle.dns_names.proofs.Numbers.{true_eq, false_eq}
+use Rattle.alt_base.proofs.Numbers.{true_eq, false_eq}
 use Rattle.dns_names.proofs.TextSays.{parts_push}
 use Rattle.dns_names.proofs.TextSteps.{part_some}
 use Rattle.svcb_text.specs.declared.token.Style.{Style}

@@ -4,7 +4,7 @@ use Rattle.std.proofs.lemmas.List.{append_assoc, append-nil, length-append, drop
 use Rattle.std.specs.List.{list_all}
 use Rattle.field_text.specs.BlanksGrammar.{is_blank}
 use Rattle.dns_names.specs.TextParts.{Part, Raw, Quoted, Decimal, part_byte, part_text, parts_text}
-use Rattle.dns_names.proofs.Numbers.{eq_false}
+use Rattle.alt_base.proofs.Numbers.{eq_false}
 use Rattle.svcb_text.specs.declared.token.Style.{Style}
 use Rattle.svcb_text.specs.declared.token.Style.TheVariants.{Contiguous, InQuotes}
 use Rattle.svcb_text.specs.declared.token.Token.TheVariants as token

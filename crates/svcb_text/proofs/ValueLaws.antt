@@ -7,7 +7,7 @@ use Rattle.svcb_wire.specs.declared.param.Param.{Param}
 use Rattle.svcb_wire.specs.declared.param.Param.TheVariants.{Mandatory, Alpn, NoDefaultAlpn, Port, V4Hint, Other, V6Hint}
 use Rattle.svcb_wire.specs.Forms.{IsOtherKey, HasForm}
 use Rattle.svcb_wire.specs.Octets.{key_of}
-use Rattle.svcb_wire.proofs.Numbers.{true_eq, false_eq, eq_false}
+use Rattle.alt_base.proofs.Numbers.{true_eq, false_eq, eq_false}
 use Rattle.svcb_text.specs.declared.unescaped.Unescaped.{Unescaped}
 use Rattle.svcb_text.specs.ValueGrammar.{SpellsValue}
 use Rattle.svcb_text.specs.ValueReading.{items_of, read_keys, read_ids, read_v4, read_v6, read_each, read_port, read_nothing, where_plain, read_value}

@@ -2,7 +2,7 @@
 use Rattle.std.proofs.Common.{◌≡◌, ◌≢◌, ◌⊎◌, ℕ, ◌≤◌, Bool, true, false, cond, ◌||◌, nat_eq, List, [], ◌∷◌, ◌++◌, length, map, refl, ap, sym, ◌∙◌, arith, inl, inr}
 use Rattle.std.specs.List.{join_with_byte}
 use Rattle.dns_names.specs.Names.{AreBytes}
-use Rattle.dns_names.proofs.Numbers.{true_eq, false_eq}
+use Rattle.alt_base.proofs.Numbers.{true_eq, false_eq}
 use Rattle.svcb_wire.specs.Forms.{IsId, AreIds}
 use Rattle.svcb_text.specs.ValueReading.{is_escaped}
 use Rattle.svcb_text.specs.ValueGrammar.{IdPart, Plain, Escaped, IsIdPart, AreIdParts, id_part_text, id_part_byte, id_text, IsIdText, AreIdTexts, SpellsIds}

@@ -1,6 +1,6 @@
 -- Rising keys are distinct, and parameters in rising keys stand in the order of their keys.
 use Rattle.std.proofs.Common.{◌≡◌, ◌≢◌, ℕ, suc, ◌<◌, ◌≤◌, cond, List, [], ◌∷◌, ◌++◌, refl, ap, sym, ◌∙◌, arith, append_assoc, append-nil}
-use Rattle.dns_names.proofs.Numbers.{lt_false}
+use Rattle.alt_base.proofs.Numbers.{lt_false}
 use Rattle.svcb_wire.specs.declared.param.Param.{Param}
 use Rattle.svcb_wire.specs.Octets.{key_of}
 use Rattle.svcb_wire.specs.Forms.{AreRising, AreParams}

@@ -1,4 +1,3 @@
-pub mod Answers
 pub mod KeyNames
 pub mod StringGrammar
 pub mod StringReading

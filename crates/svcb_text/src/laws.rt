@@ -2,7 +2,7 @@ ghost use Rattle.std.specs.Prelude.{◌≡◌, ℕ, List, Ok};
 ghost use Rattle.dns_names.specs.Names.{AreBytes};
 ghost use Rattle.svcb_wire.specs.Records.{IsRecord};
 ghost use Rattle.svcb_wire.specs.declared.svcb.Svcb.{Svcb};
-ghost use Rattle.svcb_text.specs.Answers.{refused};
+ghost use Rattle.alt_base.specs.Answers.{refused};
 ghost use Rattle.svcb_text.specs.TextGrammar.{SpellsRecordText};
 ghost use Rattle.svcb_text.specs.TextReading.{read_record_text};
 ghost use Rattle.svcb_text.specs.TextRefusals.{RecordTextRefusedAt, OneRecordText};

@@ -3,7 +3,7 @@ ghost use Rattle.std.specs.BTreeMap as tree;
 ghost use Rattle.field_text.specs.Runs.{run_of};
 ghost use Rattle.svcb_wire.specs.Octets.{key_of};
 ghost use Rattle.svcb_wire.specs.Usable.{has_key};
-ghost use Rattle.svcb_text.specs.Answers.{Answers};
+ghost use Rattle.alt_base.specs.Answers.{Answers};
 ghost use Rattle.svcb_text.specs.KeyNames.{is_key_byte};
 ghost use Rattle.svcb_text.specs.ParamOrder.{AreKeyed};
 ghost use Rattle.svcb_text.specs.StringReading.{read_string};

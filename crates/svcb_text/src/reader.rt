@@ -2,7 +2,7 @@ ghost use Rattle.std.specs.Prelude.{◌≡◌, ◌≤◌, ◌<◌, ◌+◌, ◌^
 ghost use Rattle.dns_names.specs.Names.{IsName};
 ghost use Rattle.field_text.specs.DeltaReading.{read_delta_seconds};
 ghost use Rattle.svcb_wire.specs.Records.{IsRecord};
-ghost use Rattle.svcb_text.specs.Answers.{Answers, IfRefused};
+ghost use Rattle.alt_base.specs.Answers.{Answers, IfRefused};
 ghost use Rattle.svcb_text.specs.TextGrammar.{SpellsRecordText};
 ghost use Rattle.svcb_text.specs.TextReading.{item_of, after_item, priority_of, finish, behind_priority, from_priority, read_record_text};
 ghost use Rattle.svcb_text.specs.TextRefusals.{RecordTextRefusedAt};

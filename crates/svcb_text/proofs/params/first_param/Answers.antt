@@ -1,4 +1,4 @@
-use Rattle.svcb_wire.proofs.Bytes.{bytes_of}
+use Rattle.dns_names.proofs.Bytes.{bytes_of}
 use Rattle.svcb_text.proofs.ReaderSteps.{no_key, no_end, key_found, key_new, found_new}
 use Rattle.svcb_text.proofs.params.first_param.Goals as goal
 

@@ -1,6 +1,6 @@
 use Rattle.std.proofs.Common.{◌≡◌, ℕ, List, sym, ◌∙◌, ap, subst, arith}
 use Rattle.std.proofs.lemmas.Result.{err_from_is_err_and}
-use Rattle.svcb_text.specs.Answers.{Answers}
+use Rattle.alt_base.specs.Answers.{Answers}
 use Rattle.svcb_text.specs.TextReading.{with_params}
 use Rattle.svcb_text.proofs.ReaderSteps.{target_read, target_stops, params_stop}
 use Rattle.svcb_text.proofs.reader.behind_priority.Goals as goal

@@ -1,4 +1,4 @@
-use Rattle.svcb_wire.proofs.Bytes.{bytes_of}
+use Rattle.dns_names.proofs.Bytes.{bytes_of}
 use Rattle.svcb_text.proofs.RecordSays.{spelled_by, refused_by}
 use Rattle.svcb_text.proofs.SpelledRecords.{record_by}
 use Rattle.svcb_text.proofs.reader.parse.Goals as goal
