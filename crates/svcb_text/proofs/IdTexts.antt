@@ -210,9 +210,10 @@ one_form parts s bytes = record { some = omega (arith, bytes_count parts, s.some
 items_form : (items : List (List IdPart)) → AreIdTexts items → AreBytes (join_with_byte 44 (map id_text items)) → AreIds (map (map id_part_byte) items)
 items_form [] h bytes = tt
 items_form (parts ∷ []) h bytes = (one_form parts h.0 bytes, tt)
-items_form (parts ∷ next ∷ items) h bytes =
-    (one_form parts h.0 (bytes_front (id_text parts) (44 ∷ join_with_byte 44 (map id_text (next ∷ items))) bytes),
-    items_form (next ∷ items) h.1 (bytes_back (id_text parts) (44 ∷ join_with_byte 44 (map id_text (next ∷ items))) bytes).1)
+items_form (parts ∷ next ∷ items) h bytes = (
+  one_form parts h.0 (bytes_front (id_text parts) (44 ∷ join_with_byte 44 (map id_text (next ∷ items))) bytes),
+  items_form (next ∷ items) h.1 (bytes_back (id_text parts) (44 ∷ join_with_byte 44 (map id_text (next ∷ items))) bytes).1,
+)
 
 items_count : (items : List (List IdPart)) → items ≢ [] → 1 ≤ length (map (map id_part_byte) items)
 items_count [] some = absurd (some refl)

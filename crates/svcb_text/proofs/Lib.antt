@@ -22,3 +22,16 @@ pub mod ListWriting
 pub mod ValueTexts
 pub mod WrittenValues
 pub mod WrittenLaws
+pub mod ValueLaws
+pub mod ParamKeys
+pub mod Items
+pub mod FirstParam
+pub mod FirstRead
+pub mod ParamLists
+pub mod ParamPasses
+pub mod Front
+pub mod RecordSays
+pub mod RecordSpelled
+pub mod SpelledRecords
+pub mod KeyedMap
+pub mod ReaderSteps

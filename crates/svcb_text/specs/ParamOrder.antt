@@ -38,3 +38,8 @@ in_order params = all_placed [] params
 
 abbrev pub keys_of : List Param → List ℕ
 keys_of params = map key_of params
+
+-- parameters, each beside its key
+abbrev pub AreKeyed : List (ℕ × Param) → Type 0
+AreKeyed [] = Unit {0}
+AreKeyed (entry ∷ entries) = (entry.0 ≡ key_of entry.1) × AreKeyed entries

@@ -15,3 +15,12 @@ pub fn keys_are_named()
     ensures bytes { (key : ℕ) → key < 65536 → AllIn is_key_byte (key_name key) }
     ensures some { (key : ℕ) → key < 65536 → key_name key ≢ [] }
 {}
+
+/// What a string's value is read as by a key is spelled so (RFC 9460 7, 8 and appendix A.1), what is spelled is read, and
+/// it is a parameter of the key in the key's form.
+pub fn values_are_read()
+    ensures read { (key : ℕ) (value : Unescaped) (param : Param) → key < 65536 → AreBytes value.bytes → read_value key value ≡ Some param → SpellsValue key value param }
+    ensures spelled { (key : ℕ) (value : Unescaped) (param : Param) → SpellsValue key value param → read_value key value ≡ Some param }
+    ensures of_key { (key : ℕ) (value : Unescaped) (param : Param) → SpellsValue key value param → key_of param ≡ key }
+    ensures form { (key : ℕ) (value : Unescaped) (param : Param) → key < 65536 → AreBytes value.bytes → SpellsValue key value param → HasForm param }
+{}
