@@ -35,3 +35,4 @@ pub mod RecordSpelled
 pub mod SpelledRecords
 pub mod KeyedMap
 pub mod ReaderSteps
+pub mod WrittenReads
