@@ -18,6 +18,10 @@ pub mod KeySets
 pub mod IdTexts
 pub mod AddressTexts
 pub mod AddressLists
+pub mod ListWriting
+pub mod ValueTexts
+pub mod WrittenValues
+pub mod WrittenLaws
 pub mod ValueLaws
 pub mod ParamKeys
 pub mod Items
@@ -31,7 +35,4 @@ pub mod RecordSpelled
 pub mod SpelledRecords
 pub mod KeyedMap
 pub mod ReaderSteps
-pub mod ListWriting
-pub mod ValueTexts
-pub mod WrittenValues
-pub mod WrittenLaws
+pub mod WrittenReads
