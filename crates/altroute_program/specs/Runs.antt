@@ -4,9 +4,10 @@ use Rattle.alt_base.specs.Faults.{Rose}
 use Rattle.altroute_program.specs.declared.status.Status.{Status}
 use Rattle.altroute_program.specs.declared.status.Status.TheVariants.{Done, Usage, NoMemory}
 use Rattle.altroute_program.specs.declared.command.Command.{Command}
-use Rattle.altroute_program.specs.declared.command.Command.TheVariants.{Replay, ShowAltSvc, ShowHttpsJson}
+use Rattle.altroute_program.specs.declared.command.Command.TheVariants.{Replay, ShowAltSvc, ShowFrames, ShowHttpsJson}
 use Rattle.altroute_program.specs.Outcome.{outcome, stop_of}
 use Rattle.altroute_program.specs.Ends.{Seen, ReplayEnds}
+use Rattle.altroute_program.specs.FrameEnds.{FrameEnds, AreComplete}
 use Rattle.altroute_program.specs.Given.{altsvc_given, https_given}
 use Rattle.altroute_program.specs.WholeInput.{WholeEnds, IsWholeComplete}
 
@@ -14,6 +15,7 @@ use Rattle.altroute_program.specs.WholeInput.{WholeEnds, IsWholeComplete}
 abbrev pub RunEnds : Option Command → Status → Seen → Seen → Type 0
 RunEnds (Some Replay) status old new = ReplayEnds status old new
 RunEnds (Some ShowAltSvc) status old new = WholeEnds altsvc_given status old new
+RunEnds (Some ShowFrames) status old new = FrameEnds status old new
 RunEnds (Some ShowHttpsJson) status old new = WholeEnds https_given status old new
 RunEnds None status old new = (status ≡ Usage) × (new ≡ old)
 
@@ -23,5 +25,6 @@ IsComplete (Some Replay) status old new =
     (input : List ℕ) → old.left ≡ Some input → stop_of (outcome input true) ≡ None
     → (Rose old.read_faults new.read_faults → ⊥) → (Rose old.write_faults new.write_faults → ⊥) → (status ≡ Done) ⊎ (status ≡ NoMemory)
 IsComplete (Some ShowAltSvc) status old new = IsWholeComplete altsvc_given status old new
+IsComplete (Some ShowFrames) status old new = AreComplete status old new
 IsComplete (Some ShowHttpsJson) status old new = IsWholeComplete https_given status old new
 IsComplete None status old new = Unit {0}

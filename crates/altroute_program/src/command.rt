@@ -10,6 +10,8 @@ pub enum Command {
     Replay,
     /// Reads one Alt-Svc field value and writes a line for each alternative.
     ShowAltSvc,
+    /// Reads the octets of HTTP/2 frames and writes a line for each frame.
+    ShowFrames,
     /// Reads one SVCB or HTTPS record's RDATA in hex and writes it as one line of JSON.
     ShowHttpsJson,
 }
@@ -29,6 +31,10 @@ pub fn command_of(words: &Words) -> Option<Command>
         [word, second] => {
             if word.as_slice() == b"show".as_slice() && second.as_slice() == b"altsvc".as_slice() {
                 Some(Command::ShowAltSvc)
+            } else if word.as_slice() == b"show".as_slice()
+                && second.as_slice() == b"frames".as_slice()
+            {
+                Some(Command::ShowFrames)
             } else {
                 None
             }

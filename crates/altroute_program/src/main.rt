@@ -3,6 +3,9 @@
 
 mod answers;
 mod command;
+mod frame_lines;
+mod frame_steps;
+mod frames_so_far;
 mod give;
 mod given;
 mod laws;
@@ -10,6 +13,7 @@ mod record_json;
 mod replay;
 mod run;
 mod show_altsvc;
+mod show_frames;
 mod show_https;
 mod state;
 mod status;
@@ -52,5 +56,7 @@ fn main(rt: HostRuntime) -> ExitCode {
     ExitCode::from(run(alloc, &words, &mut source, &mut sink).number())
 }
 
+#[cfg(test)]
+mod frame_tests;
 #[cfg(test)]
 mod tests;

@@ -5,6 +5,7 @@ ghost use Rattle.altroute_program.specs.Runs.{RunEnds, IsComplete};
 use crate::Status;
 use crate::command::{Command, command_of};
 use crate::show_altsvc::show_altsvc;
+use crate::show_frames::show_frames;
 use crate::show_https::show_https;
 use crate::turns::replay;
 use alt_base::{Sink, Source, Words};
@@ -27,6 +28,7 @@ pub fn run<S: Source, K: Sink>(alloc: Global, words: &Words, source: &mut S, sin
     match command_of(words) {
         Some(Command::Replay) => replay(alloc, source, sink),
         Some(Command::ShowAltSvc) => show_altsvc(alloc, source, sink),
+        Some(Command::ShowFrames) => show_frames(alloc, source, sink),
         Some(Command::ShowHttpsJson) => show_https(alloc, source, sink),
         None => Status::Usage,
     }

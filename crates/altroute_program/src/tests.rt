@@ -2,11 +2,11 @@ use super::*;
 use alt_base::{Bytes, Calls, MemorySink, MemorySource, Text};
 use std::test::Fail;
 
-fn bytes_of(alloc: Global, bytes: &[u8]) -> Result<Bytes, Fail> {
+pub(crate) fn bytes_of(alloc: Global, bytes: &[u8]) -> Result<Bytes, Fail> {
     Ok(ListOf::from_vec(Vec::from_slice(alloc, bytes)?))
 }
 
-fn words(alloc: Global, all: &[&[u8]]) -> Result<Words, Fail> {
+pub(crate) fn words(alloc: Global, all: &[&[u8]]) -> Result<Words, Fail> {
     let mut words: Words = ListOf::new(alloc);
     for word in all {
         let text: Text = bytes_of(alloc, *word)?;
@@ -15,15 +15,15 @@ fn words(alloc: Global, all: &[&[u8]]) -> Result<Words, Fail> {
     Ok(words)
 }
 
-fn calls(alloc: Global, numbers: &[u32]) -> Result<Calls, Fail> {
+pub(crate) fn calls(alloc: Global, numbers: &[u32]) -> Result<Calls, Fail> {
     Ok(ListOf::from_vec(Vec::from_slice(alloc, numbers)?))
 }
 
 /// What a run gives: its status's number, and what it wrote.
 #[derive(Drop)]
-struct Gave {
-    status: u8,
-    written: Vec<u8>,
+pub(crate) struct Gave {
+    pub status: u8,
+    pub written: Vec<u8>,
 }
 
 fn replayed(
@@ -41,7 +41,7 @@ fn replayed(
     })
 }
 
-fn shown(
+pub(crate) fn shown(
     alloc: Global,
     all: &[&[u8]],
     input: Bytes,

@@ -1,11 +1,12 @@
 use Rattle.std.proofs.Common.{◌≡◌, ◌∙◌, ap, Some, Option, sym, subst}
 use Rattle.altroute_program.specs.declared.command.Command.{Command}
-use Rattle.altroute_program.specs.declared.command.Command.TheVariants.{Replay, ShowAltSvc, ShowHttpsJson}
+use Rattle.altroute_program.specs.declared.command.Command.TheVariants.{Replay, ShowAltSvc, ShowFrames, ShowHttpsJson}
 use Rattle.altroute_program.specs.Commands.{command_of}
 use Rattle.altroute_program.specs.Ends.{Seen}
 use Rattle.altroute_program.specs.Given.{altsvc_given, https_given}
 use Rattle.altroute_program.specs.Runs.{IsComplete}
 use Rattle.altroute_program.proofs.Complete.{complete}
+use Rattle.altroute_program.proofs.FrameComplete.{frames_complete}
 use Rattle.altroute_program.proofs.WholeInputs.{whole_complete}
 use Rattle.altroute_program.proofs.run.run.Goals as goal
 
@@ -29,3 +30,10 @@ returns-in-Some-ShowHttpsJson-clause-complete g c =
     let new : Seen = record { left = g.S.Source.left c.show_https.new.source; source_ended = g.S.Source.ended c.show_https.new.source; read_faults = g.S.Source.faults c.show_https.new.source; written = g.K.Sink.written c.show_https.new.sink; write_faults = g.K.Sink.faults c.show_https.new.sink } in
     let is : Some ShowHttpsJson ≡ command_of c.args.words.now = sym (sym c.command_of.ensures ∙ c.in-Some-ShowHttpsJson.is ∙ ap Some c.in-Some-ShowHttpsJson.field-0-is) in
     subst (λ (w : Option Command). IsComplete w c.show_https.result old new) is (whole_complete https_given c.show_https.result old new c.show_https.ensures)
+
+pub returns-in-Some-ShowFrames-clause-complete : goal.returns-in-Some-ShowFrames-clause-complete
+returns-in-Some-ShowFrames-clause-complete g c =
+    let old : Seen = record { left = g.S.Source.left c.args.source.now; source_ended = g.S.Source.ended c.args.source.now; read_faults = g.S.Source.faults c.args.source.now; written = g.K.Sink.written c.args.sink.now; write_faults = g.K.Sink.faults c.args.sink.now } in
+    let new : Seen = record { left = g.S.Source.left c.show_frames.new.source; source_ended = g.S.Source.ended c.show_frames.new.source; read_faults = g.S.Source.faults c.show_frames.new.source; written = g.K.Sink.written c.show_frames.new.sink; write_faults = g.K.Sink.faults c.show_frames.new.sink } in
+    let is : Some ShowFrames ≡ command_of c.args.words.now = sym (sym c.command_of.ensures ∙ c.in-Some-ShowFrames.is ∙ ap Some c.in-Some-ShowFrames.field-0-is) in
+    subst (λ (w : Option Command). IsComplete w c.show_frames.result old new) is (frames_complete c.show_frames.result old new c.show_frames.ensures)
