@@ -7,3 +7,8 @@ mod OneTurn
 mod Complete
 mod WholeInputs
 mod RecordTexts
+mod FrameSplits
+mod FrameOutcomes
+mod FrameAnswers
+mod FrameRuns
+mod FrameComplete

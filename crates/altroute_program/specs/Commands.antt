@@ -2,7 +2,7 @@
 use Rattle.std.specs.Prelude.{ℕ, Bool, List, [], ◌∷◌, Option, Some, None, if◌then◌else◌, codes, nat_eq, ◌&&◌}
 use Rattle.std.specs.Cmp.Lexicographic.{pointwise}
 use Rattle.altroute_program.specs.declared.command.Command.{Command}
-use Rattle.altroute_program.specs.declared.command.Command.TheVariants.{Replay, Whole}
+use Rattle.altroute_program.specs.declared.command.Command.TheVariants.{Replay, ShowFrames, Whole}
 use Rattle.altroute_program.specs.declared.whole_command.WholeCommand.TheVariants.{ShowAltSvc, ShowHttps, ShowHttpsJson, WriteHttps}
 
 -- a word is this one
@@ -11,7 +11,11 @@ is_word word this = pointwise nat_eq word this
 
 -- `show` and one more word
 abbrev pub shown : List ℕ → Option Command
-shown what = if is_word what (codes "altsvc") then Some (Whole ShowAltSvc) else (if is_word what (codes "https") then Some (Whole ShowHttps) else None)
+shown what =
+    if is_word what (codes "altsvc") then Some (Whole ShowAltSvc)
+    else (if is_word what (codes "frames") then Some ShowFrames
+    else (if is_word what (codes "https") then Some (Whole ShowHttps)
+    else None))
 
 -- `show` and two more words
 abbrev pub shown_as : List ℕ → List ℕ → Option Command

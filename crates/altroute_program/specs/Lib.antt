@@ -9,3 +9,7 @@ pub mod Given
 pub mod WholeInput
 pub mod Runs
 pub mod RecordJson
+pub mod FrameLines
+pub mod FrameOutcome
+pub mod FrameEnds
+pub mod FrameSteps

@@ -4,15 +4,17 @@ use Rattle.alt_base.specs.Faults.{Rose}
 use Rattle.altroute_program.specs.declared.status.Status.{Status}
 use Rattle.altroute_program.specs.declared.status.Status.TheVariants.{Done, Usage, NoMemory}
 use Rattle.altroute_program.specs.declared.command.Command.{Command}
-use Rattle.altroute_program.specs.declared.command.Command.TheVariants.{Replay, Whole}
+use Rattle.altroute_program.specs.declared.command.Command.TheVariants.{Replay, ShowFrames, Whole}
 use Rattle.altroute_program.specs.Outcome.{outcome, stop_of}
 use Rattle.altroute_program.specs.Ends.{Seen, ReplayEnds}
+use Rattle.altroute_program.specs.FrameEnds.{FrameEnds, AreComplete}
 use Rattle.altroute_program.specs.Given.{given_for}
 use Rattle.altroute_program.specs.WholeInput.{WholeEnds, IsWholeComplete}
 
 -- the statuses of a run: where the words are no command, nothing is read or written
 abbrev pub RunEnds : Option Command → Status → Seen → Seen → Type 0
 RunEnds (Some Replay) status old new = ReplayEnds status old new
+RunEnds (Some ShowFrames) status old new = FrameEnds status old new
 RunEnds (Some (Whole command)) status old new = WholeEnds (given_for command) status old new
 RunEnds None status old new = (status ≡ Usage) × (new ≡ old)
 
@@ -21,5 +23,6 @@ abbrev pub IsComplete : Option Command → Status → Seen → Seen → Type 0
 IsComplete (Some Replay) status old new =
     (input : List ℕ) → old.left ≡ Some input → stop_of (outcome input true) ≡ None
     → (Rose old.read_faults new.read_faults → ⊥) → (Rose old.write_faults new.write_faults → ⊥) → (status ≡ Done) ⊎ (status ≡ NoMemory)
+IsComplete (Some ShowFrames) status old new = AreComplete status old new
 IsComplete (Some (Whole command)) status old new = IsWholeComplete (given_for command) status old new
 IsComplete None status old new = Unit {0}

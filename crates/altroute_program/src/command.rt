@@ -9,6 +9,8 @@ use alt_base::{Text, Words};
 pub enum Command {
     /// Reads event lines and writes the lines of their actions.
     Replay,
+    /// Reads the octets of HTTP/2 frames and writes a line for each frame.
+    ShowFrames,
     /// Reads one value, to the end of the input, and writes it in another form.
     Whole(WholeCommand),
 }
@@ -26,6 +28,8 @@ fn shown(what: &Text) -> Option<Command>
 {
     if is_word(what, b"altsvc") {
         Some(Command::Whole(WholeCommand::ShowAltSvc))
+    } else if is_word(what, b"frames") {
+        Some(Command::ShowFrames)
     } else if is_word(what, b"https") {
         Some(Command::Whole(WholeCommand::ShowHttps))
     } else {

@@ -5,6 +5,9 @@ ghost use Rattle.std.specs.Prelude.{◌≡◌, IfOk, map, string_bytes};
 
 mod answers;
 mod command;
+mod frame_lines;
+mod frame_steps;
+mod frames_so_far;
 mod give;
 mod given;
 mod laws;
@@ -14,6 +17,7 @@ mod replay;
 mod run;
 mod run_whole;
 mod show_altsvc;
+mod show_frames;
 mod show_https;
 mod state;
 mod status;
@@ -62,6 +66,8 @@ fn main(rt: HostRuntime) -> ExitCode {
     ExitCode::from(run(alloc, &words, &mut source, &mut sink).number())
 }
 
+#[cfg(test)]
+mod frame_tests;
 #[cfg(test)]
 mod record_tests;
 #[cfg(test)]

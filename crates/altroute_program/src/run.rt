@@ -5,6 +5,7 @@ ghost use Rattle.altroute_program.specs.Runs.{RunEnds, IsComplete};
 use crate::Status;
 use crate::command::{Command, command_of};
 use crate::run_whole::run_whole;
+use crate::show_frames::show_frames;
 use crate::turns::replay;
 use alt_base::{Sink, Source, Words};
 use std::alloc::Global;
@@ -25,6 +26,7 @@ pub fn run<S: Source, K: Sink>(alloc: Global, words: &Words, source: &mut S, sin
 {
     match command_of(words) {
         Some(Command::Replay) => replay(alloc, source, sink),
+        Some(Command::ShowFrames) => show_frames(alloc, source, sink),
         Some(Command::Whole(command)) => run_whole(alloc, command, source, sink),
         None => Status::Usage,
     }

@@ -6,7 +6,7 @@ pub(crate) fn bytes_of(alloc: Global, bytes: &[u8]) -> Result<Bytes, Fail> {
     Ok(ListOf::from_vec(Vec::from_slice(alloc, bytes)?))
 }
 
-fn words(alloc: Global, all: &[&[u8]]) -> Result<Words, Fail> {
+pub(crate) fn words(alloc: Global, all: &[&[u8]]) -> Result<Words, Fail> {
     let mut words: Words = ListOf::new(alloc);
     for word in all {
         let text: Text = bytes_of(alloc, *word)?;
@@ -15,7 +15,7 @@ fn words(alloc: Global, all: &[&[u8]]) -> Result<Words, Fail> {
     Ok(words)
 }
 
-fn calls(alloc: Global, numbers: &[u32]) -> Result<Calls, Fail> {
+pub(crate) fn calls(alloc: Global, numbers: &[u32]) -> Result<Calls, Fail> {
     Ok(ListOf::from_vec(Vec::from_slice(alloc, numbers)?))
 }
 

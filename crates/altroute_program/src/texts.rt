@@ -8,14 +8,14 @@ use event_lines::{LineRefusal, write_action};
 use route_events::{Action, StepRefusal};
 use std::alloc::Global;
 
-fn put(text: &mut Vec<u8>, piece: &[u8]) -> Result<(), NoMemory>
+pub(crate) fn put(text: &mut Vec<u8>, piece: &[u8]) -> Result<(), NoMemory>
     ensures { OnOk result (text.new.items ≡ text.old.items ++ piece.now) }
 {
     text.extend_from_slice(piece)?;
     Ok(())
 }
 
-fn put_number(alloc: Global, text: &mut Vec<u8>, number: u32) -> Result<(), NoMemory>
+pub(crate) fn put_number(alloc: Global, text: &mut Vec<u8>, number: u32) -> Result<(), NoMemory>
     ensures { OnOk result (text.new.items ≡ text.old.items ++ decimal number) }
 {
     text.extend_from_slice(number.to_string(alloc)?.as_bytes())?;
