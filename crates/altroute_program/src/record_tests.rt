@@ -15,7 +15,8 @@ fn hold(rt: &HostRuntime, words: &[&[u8]], rows: &[Row]) -> Result<(), Fail> {
     Ok(())
 }
 
-const WIRE: &[u8] = b"001003666f6f076578616d706c65036f7267000000000400010004000100090268320568332d313900040004c0000201\n";
+const WIRE: &[u8] =
+    b"001003666f6f076578616d706c65036f7267000000000400010004000100090268320568332d313900040004c0000201\n";
 
 #[test]
 fn records_as_json(rt: HostRuntime) -> Result<(), Fail> {
@@ -70,8 +71,16 @@ fn texts_as_octets(rt: HostRuntime) -> Result<(), Fail> {
                 0,
             ),
             (b"1 . key123=\"a;b\"", b"000100007b0003613b62\n", 0),
-            (b"1 foo.example.com. key123=abc key123=def", b"refused 4 at 30\n", 1),
-            (b"1 foo.example.com. mandatory=mandatory", b"refused 6 at 29\n", 1),
+            (
+                b"1 foo.example.com. key123=abc key123=def",
+                b"refused 4 at 30\n",
+                1,
+            ),
+            (
+                b"1 foo.example.com. mandatory=mandatory",
+                b"refused 6 at 29\n",
+                1,
+            ),
             (b"", b"refused 1 at 0\n", 1),
             (b"1 . mandatory=port", b"refused 7 at 18\n", 1),
             (b"0 . mandatory=port", b"000000000000020003\n", 0),

@@ -5,8 +5,8 @@ ghost use Rattle.altroute_program.specs.WholeInput.{WholeEnds};
 
 use crate::give::give;
 use crate::given::Given;
-use crate::show_altsvc::altsvc_given;
 use crate::record_form::RecordForm;
+use crate::show_altsvc::altsvc_given;
 use crate::show_https::hex_given;
 use crate::whole_input::read_all;
 use crate::write_https::text_given;
