@@ -1,8 +1,7 @@
 -- Addresses joined by commas, whatever reads and spells one of them.
 use Rattle.std.proofs.Common.{◌≡◌, ◌≢◌, ℕ, zero, suc, ◌+◌, ◌≤◌, ◌^◌, ◌<◌, List, [], ◌∷◌, ◌++◌, length, drop, append_assoc, append-nil, Option, Some, None, refl, ap, sym, ◌∙◌, subst, arith, All}
-use Rattle.std.specs.List.{join_with_byte}
 use Rattle.dns_names.specs.Names.{AreBytes}
-use Rattle.origin_values.specs.HostGrammar.{SpellsV4, SpellsV6, SpellsAddr}
+use Rattle.origin_values.specs.HostGrammar.{SpellsV4, SpellsV6}
 use Rattle.origin_values.specs.HostReading.{read_addr}
 use Rattle.origin_values.specs.declared.address.Addr.{Addr}
 use Rattle.origin_values.specs.declared.address.Addr.TheVariants as address
