@@ -1,8 +1,7 @@
 -- Addresses joined by commas, whatever reads and spells one of them.
 use Rattle.std.proofs.Common.{◌≡◌, ◌≢◌, ℕ, zero, suc, ◌+◌, ◌≤◌, ◌^◌, ◌<◌, List, [], ◌∷◌, ◌++◌, length, drop, append_assoc, append-nil, Option, Some, None, refl, ap, sym, ◌∙◌, subst, arith, All}
-use Rattle.std.specs.List.{join_with_byte}
 use Rattle.dns_names.specs.Names.{AreBytes}
-use Rattle.origin_values.specs.HostGrammar.{SpellsV4, SpellsV6, SpellsAddr}
+use Rattle.origin_values.specs.HostGrammar.{SpellsV4, SpellsV6}
 use Rattle.origin_values.specs.HostReading.{read_addr}
 use Rattle.origin_values.specs.declared.address.Addr.{Addr}
 use Rattle.origin_values.specs.declared.address.Addr.TheVariants as address
@@ -12,7 +11,7 @@ use Rattle.svcb_wire.specs.Forms.{IsAddress, AreAddresses}
 use Rattle.svcb_text.specs.ValueGrammar.{SpellEach, SpellsAddresses}
 use Rattle.svcb_text.specs.ValueReading.{items_of, v4_of, v6_of, read_v4, read_v6, onto, read_each}
 use Rattle.svcb_text.proofs.AddressTexts.{v4_no_comma, v6_no_comma}
-use Rattle.svcb_text.proofs.CommaItems.{NoComma, NoCommas, items_joined, items_whole, items_some}
+use Rattle.svcb_text.proofs.CommaItems.{IsNext, NoComma, NoCommas, items_joined, items_whole, items_some}
 
 abbrev Reader : Type 0
 Reader = List ℕ → Option (List ℕ)
@@ -120,10 +119,6 @@ before_all before (Some more) = Some (before ++ more)
 
 abbrev pub IsSoFar : Reader → List ℕ → Items → ℕ → Type 0
 IsSoFar read text addresses count = before_all addresses (read_each read (drop count (items_of text))) ≡ read_each read (items_of text)
-
--- the item that is next
-abbrev pub IsNext : List ℕ → List ℕ → ℕ → Type 0
-IsNext text item count = drop count (items_of text) ≡ item ∷ drop (count + 1) (items_of text)
 
 before_none : (o : Option Items) → before_all [] o ≡ o
 before_none None = refl

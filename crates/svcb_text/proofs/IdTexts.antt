@@ -1,14 +1,14 @@
 -- Ids joined by commas, read byte by byte.
-use Rattle.std.proofs.Common.{◌≡◌, ◌≢◌, ◌⊎◌, ℕ, ◌+◌, ◌<◌, ◌≤◌, Bool, true, false, cond, ◌&&◌, ◌||◌, nat_eq, nat_le, List, [], ◌∷◌, ◌++◌, length, drop, get_or, map, append_assoc, append-nil, Option, Some, None, refl, ap, sym, ◌∙◌, subst, arith, inl, inr}
+use Rattle.std.proofs.Common.{◌≡◌, ◌≢◌, ◌⊎◌, ℕ, ◌≤◌, Bool, true, false, cond, ◌||◌, nat_eq, nat_le, List, [], ◌∷◌, ◌++◌, length, drop, get_or, map, append_assoc, append-nil, Option, Some, None, refl, ap, sym, ◌∙◌, subst, arith, inl, inr}
 use Rattle.std.specs.List.{join_with_byte}
 use Rattle.dns_names.specs.Names.{AreBytes}
 use Rattle.origin_values.proofs.Comparisons.{le_from_test, test_from_le}
 use Rattle.alt_base.proofs.Conjunctions.{both}
 use Rattle.svcb_wire.specs.Forms.{IsId, AreIds}
 use Rattle.dns_names.proofs.Bytes.{bytes_front, bytes_back}
-use Rattle.alt_base.proofs.Numbers.{true_eq, false_eq, eq_true, eq_false}
+use Rattle.alt_base.proofs.Numbers.{true_eq, false_eq, eq_false}
 use Rattle.svcb_text.specs.ValueGrammar.{IdPart, Plain, Escaped, IsIdPart, AreIdParts, id_part_text, id_part_byte, id_text, IsIdText, AreIdTexts, SpellsIds}
-use Rattle.svcb_text.specs.ValueReading.{is_id, is_escaped, with_id, then_ids, ids_behind, read_ids}
+use Rattle.svcb_text.specs.ValueReading.{is_id, is_escaped, with_id, ids_behind, read_ids}
 
 -- one step of the reading
 pub comma_on : (ids : List (List ℕ)) (id rest : List ℕ) → is_id id ≡ true → ids_behind ids id (44 ∷ rest) ≡ ids_behind (ids ++ id ∷ []) [] rest

@@ -1,12 +1,12 @@
 -- The names of keys: which key a text names, and which bytes stand in a name.
-use Rattle.std.proofs.Common.{◌≡◌, ◌≢◌, ◌⊎◌, ℕ, ◌+◌, ◌^◌, ◌<◌, ◌≤◌, Bool, true, false, cond, ◌&&◌, ◌||◌, nat_eq, nat_le, nat_lt, List, [], ◌∷◌, ◌++◌, length, take, drop, codes, decimal, Option, Some, None, refl, ap, sym, ◌∙◌, subst, arith, inl, inr}
+use Rattle.std.proofs.Common.{◌≡◌, ◌≢◌, ℕ, ◌<◌, ◌≤◌, Bool, true, false, cond, nat_eq, nat_le, List, [], ◌∷◌, ◌++◌, take, drop, codes, decimal, Option, Some, None, refl, ap, sym, ◌∙◌, subst, arith}
 use Rattle.std.specs.Char.{digit_value}
-use Rattle.std.specs.Cmp.Lexicographic.{pointwise, same_text}
+use Rattle.std.specs.Cmp.Lexicographic.{same_text}
 use Rattle.std.specs.Str.Parse.{AllDigits}
 use Rattle.std.proofs.lemmas.Bool.Decides.{nat_tests}
 use Rattle.std.proofs.lemmas.Fmt.{decimal_is_IsNumeral}
 use Rattle.field_text.specs.Runs.{AllIn}
-use Rattle.alt_base.proofs.Numbers.{true_eq, false_eq, eq_false}
+use Rattle.alt_base.proofs.Numbers.{true_eq, false_eq}
 use Rattle.svcb_text.specs.KeyNames.{key_name, key_named, is_key_byte, is_text, number_of, numbered_key, unnamed}
 use Rattle.svcb_text.proofs.DigitTexts.{number_is, number_read}
 

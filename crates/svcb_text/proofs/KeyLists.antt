@@ -1,9 +1,9 @@
 -- The keys of a mandatory list: placed one by one among rising ones.
 use Rattle.std.proofs.Common.{◌≡◌, ◌≢◌, ℕ, suc, ◌<◌, ◌≤◌, Bool, true, false, cond, ◌||◌, nat_eq, nat_lt, List, [], ◌∷◌, length, map, Option, Some, None, refl, ap, sym, ◌∙◌, subst, arith}
-use Rattle.std.specs.List.{join_with_byte, list_any}
+use Rattle.std.specs.List.{join_with_byte}
 use Rattle.field_text.specs.Runs.{AllIn}
 use Rattle.svcb_wire.specs.Forms.{AreRising}
-use Rattle.alt_base.proofs.Numbers.{true_eq, false_eq, eq_true, eq_false, true_lt, false_lt}
+use Rattle.alt_base.proofs.Numbers.{true_eq, false_eq, eq_false, true_lt, false_lt}
 use Rattle.svcb_text.specs.KeyNames.{key_name, key_named, is_key_byte}
 use Rattle.svcb_text.specs.ParamOrder.{IsNew, placed_key, keys_placed, keys_in_order}
 use Rattle.svcb_text.specs.ValueGrammar.{AreMandatory, SpellsKeys}
@@ -16,7 +16,7 @@ or_swap true true c = refl
 or_swap true false c = refl
 or_swap false b c = refl
 
-neither : (a b : Bool) → (a || b) ≡ false → (a ≡ false) × (b ≡ false)
+pub neither : (a b : Bool) → (a || b) ≡ false → (a ≡ false) × (b ≡ false)
 neither true b h = cc
 neither false b h = (refl, h)
 

@@ -1,5 +1,5 @@
 -- The keys of a mandatory list as a set of std's.
-use Rattle.std.proofs.Common.{◌≡◌, ◌≢◌, ℕ, ◌+◌, Bool, true, false, cond, not, ◌||◌, nat_eq, nat_lt, List, [], ◌∷◌, length, drop, Option, Some, None, refl, ap, sym, ◌∙◌, subst, arith}
+use Rattle.std.proofs.Common.{◌≡◌, ◌≢◌, ℕ, ◌+◌, Bool, true, false, cond, not, ◌||◌, nat_eq, nat_lt, List, [], ◌∷◌, drop, Option, Some, None, refl, ap, sym, ◌∙◌, arith}
 use Rattle.std.specs.List.{list_any}
 use Rattle.std.specs.Ordering.{nat_cmp, match_ordering, is_eq}
 use Rattle.std.specs.declared.cmp.Ordering.TheVariants.{Less, Equal, Greater}
@@ -10,6 +10,8 @@ use Rattle.alt_base.proofs.Numbers.{eq_false}
 use Rattle.svcb_text.specs.KeyNames.{key_named}
 use Rattle.svcb_text.specs.ParamOrder.{placed_key}
 use Rattle.svcb_text.specs.ValueReading.{items_of, has_number, with_key, then_keys, keys_beside, read_keys}
+use Rattle.svcb_text.proofs.CommaItems.{IsNext}
+use Rattle.svcb_text.proofs.KeyLists.{neither}
 
 test_same : (a b : ℕ) → is_eq (nat_cmp a b) ≡ nat_eq b a
 test_same a b = grind (arith, nat_tests)
@@ -20,10 +22,6 @@ set_has key (first ∷ keys) = ap (λ t. t || list_any (is_at (nat_cmp key)) key
 
 not_lower : (a b : ℕ) → nat_eq b a ≡ false → nat_eq a b ≡ false
 not_lower a b h = grind (arith, nat_tests)
-
-neither : (a b : Bool) → (a || b) ≡ false → (a ≡ false) × (b ≡ false)
-neither true b h = cc
-neither false b h = (refl, h)
 
 pub set_insert : (key : ℕ) (keys : List ℕ) → has_number keys key ≡ false → insert_key nat_cmp keys key ≡ placed_key key keys
 set_insert key [] fresh = refl
@@ -39,10 +37,6 @@ set_insert key (first ∷ keys) fresh =
 -- the loop over the names: what is left is read beside the keys so far
 abbrev pub IsSoFar : List ℕ → List ℕ → ℕ → Type 0
 IsSoFar text keys count = keys_beside (drop count (items_of text)) keys ≡ read_keys text
-
--- the name that is next
-abbrev pub IsNext : List ℕ → List ℕ → ℕ → Type 0
-IsNext text item count = drop count (items_of text) ≡ item ∷ drop (count + 1) (items_of text)
 
 pub no_key : (text item keys : List ℕ) (count : ℕ) → IsSoFar text keys count → IsNext text item count → key_named item ≡ None → None ≡ read_keys text
 no_key text item keys count h next none =

@@ -1,4 +1,4 @@
-use Rattle.std.proofs.Common.{◌+◌, ◌-◌, ◌*◌, ◌<◌, get_or, arith}
+use Rattle.std.proofs.Common.{arith}
 use Rattle.svcb_text.proofs.DigitTexts.{room}
 use Rattle.svcb_text.proofs.port.value_of.Goals as goal
 
