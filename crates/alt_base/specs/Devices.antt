@@ -1,5 +1,5 @@
 -- What a read takes and a write appends, where the bytes are told.
-use Rattle.std.specs.Prelude.{◌≡◌, ℕ, ◌+◌, ◌≤◌, ◌<◌, List, [], ◌++◌, take, drop, length, Option, None, Some, IfSome, Bool, if◌then◌else◌, nat_eq, zero, suc, Result, Ok, Err, false, ◌&&◌, nat_lt}
+use Rattle.std.specs.Prelude.{◌≡◌, ℕ, ◌+◌, List, [], ◌++◌, Option, None, Some, IfSome, Bool, if◌then◌else◌, nat_eq, zero, suc, Result, Ok, Err, false, ◌&&◌, nat_lt}
 use Rattle.std.specs.List.{list_any}
 use Rattle.std.proofs.Common.{refl, ap, sym, ◌∙◌, append_assoc, append-nil}
 

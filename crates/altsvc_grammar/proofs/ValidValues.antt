@@ -1,9 +1,8 @@
 -- A value that is spelled is valid: each alternative is in its bounds, and no two have one key.
-use Rattle.std.proofs.Common.{◌≡◌, ◌≢◌, ℕ, ◌≤◌, Bool, true, false, cond, min, List, [], ◌∷◌, ◌++◌, codes, Option, Some, None, refl, ap, sym, ◌∙◌, subst, arith}
+use Rattle.std.proofs.Common.{◌≡◌, ◌≢◌, ℕ, ◌≤◌, Bool, true, false, cond, min, List, [], ◌∷◌, ◌++◌, codes, Option, Some, None, refl, sym, subst, arith}
 use Rattle.std.specs.List.{list_any, list_all}
 use Rattle.std.specs.Char.{is_ascii_digit}
 use Rattle.std.specs.Str.Parse.{digits_value}
-use Rattle.field_text.specs.QuotedGrammar.{parts_bytes}
 use Rattle.field_text.specs.DeltaGrammar.{greatest_delta_seconds}
 use Rattle.origin_values.specs.declared.host.Host.{Host}
 use Rattle.origin_values.proofs.HostTexts.{host_valid}
@@ -13,9 +12,9 @@ use Rattle.altsvc_grammar.specs.declared.alt_svc.AltSvc.{AltSvc}
 use Rattle.altsvc_grammar.specs.declared.alt_svc.AltSvc.TheVariants as value
 use Rattle.altsvc_grammar.specs.ParameterReading.{ma_value, or_else}
 use Rattle.altsvc_grammar.specs.AuthorityGrammar.{SpellsOptionalHost}
-use Rattle.altsvc_grammar.specs.ParameterGrammar.{Parameter, first_named, ma_said, ma_of}
+use Rattle.altsvc_grammar.specs.ParameterGrammar.{first_named, ma_said}
 use Rattle.altsvc_grammar.specs.ValueGrammar.{Alternative, IsAlternative, alt_meant, Element, Clear, Offered, IsElement, Slot, IsSlot, IsOptionalElement, AreSlots, with_element, elements_of, is_clear, alternatives_of, key_in, firsts, meaning, SpellsValue}
-use Rattle.altsvc_grammar.specs.Valid.{IsOptionalHost, IsKey, IsAlt, AreAlts, AreDistinct, IsAltSvc}
+use Rattle.altsvc_grammar.specs.Valid.{IsOptionalHost, IsAlt, AreAlts, AreDistinct, IsAltSvc}
 use Rattle.altsvc_grammar.proofs.Meanings.{no_clear_some}
 
 AreElements : List Element → Type 0

@@ -1,5 +1,5 @@
 -- The laws of all runs.
-use Rattle.std.proofs.Common.{◌≡◌, ℕ, Bool, true, false, cond, List, [], ◌∷◌, ◌++◌, map, Option, Some, None, is_some, All, refl, sym, ◌∙◌, subst}
+use Rattle.std.proofs.Common.{◌≡◌, ℕ, true, cond, List, [], ◌∷◌, ◌++◌, map, Option, Some, None, is_some, All, refl, sym, ◌∙◌, subst}
 use Rattle.route_events.specs.declared.fact.Fact.{Fact}
 use Rattle.route_events.specs.declared.fact.Fact.TheVariants.{Closed, Tick}
 use Rattle.route_events.specs.declared.action.Action.{Action}
@@ -10,7 +10,7 @@ use Rattle.route_events.specs.Journal.{Happened, Taken, Journal, newest_moment}
 use Rattle.route_events.specs.Requests.{requests, standing, waits, waiting}
 use Rattle.route_events.specs.Connections.{outstanding}
 use Rattle.route_events.specs.Dispatch.{dispatch}
-use Rattle.route_events.specs.Step.{IsRun, Begun, Stepped, refusal, settled, step, run, effects, with_actions, with_fact}
+use Rattle.route_events.specs.Step.{IsRun, Begun, Stepped, refusal, settled, step, run, effects, with_fact}
 use Rattle.route_events.specs.Headline.{MayWait, IsAllowed, EachAction}
 use Rattle.route_events.proofs.Lists.{IsIn, in_filter, filter_in, apart_filter, all_from_in}
 use Rattle.route_events.proofs.Sound.{Sound, sound_begun, sound_fact}

@@ -1,21 +1,20 @@
 -- What settling does.
-use Rattle.std.proofs.Common.{◌≡◌, ◌⊎◌, inl, inr, ℕ, ◌+◌, ◌≤◌, Bool, true, false, cond, not, ◌&&◌, ◌||◌, nat_eq, List, [], ◌∷◌, length, map, Option, Some, None, filter, All, Any, refl, ap, sym, ◌∙◌, subst, true≢false}
+use Rattle.std.proofs.Common.{◌≡◌, ◌⊎◌, inl, inr, ℕ, ◌+◌, Bool, true, false, cond, not, ◌&&◌, ◌||◌, nat_eq, List, [], ◌∷◌, length, Option, Some, None, filter, All, refl, ap, sym, ◌∙◌, subst, true≢false}
 use Rattle.std.specs.Option.{option_map_or}
 use Rattle.std.specs.List.{list_any}
-use Rattle.origin_values.specs.declared.host.Host.{Host}
 use Rattle.origin_values.specs.declared.origin.Origin.{Origin}
 use Rattle.route_events.specs.declared.action.Action.{Action}
-use Rattle.route_events.specs.declared.action.Action.TheVariants.{OpenTo, SendOn, Refuse, Lost}
+use Rattle.route_events.specs.declared.action.Action.TheVariants.{OpenTo, Refuse, Lost}
 use Rattle.route_events.specs.declared.route.Route.{Route}
 use Rattle.route_events.specs.declared.request.Request.{Request}
 use Rattle.route_events.specs.declared.connection.Connection.{Connection}
 use Rattle.route_events.specs.Journal.{Taken, Journal, newest_moment}
-use Rattle.route_events.specs.Attempts.{attempts, has_ended}
-use Rattle.route_events.specs.Requests.{Standing, OutOn, Over, requests, request_of, newest_number, standing, waits, waiting}
-use Rattle.route_events.specs.Connections.{connections, connection_of, is_open, is_busy, send_count}
+use Rattle.route_events.specs.Attempts.{attempts}
+use Rattle.route_events.specs.Requests.{Standing, OutOn, Over, requests, standing, waits, waiting}
+use Rattle.route_events.specs.Connections.{connections, is_open, is_busy}
 use Rattle.route_events.specs.Authority.{is_authoritative}
 use Rattle.route_events.specs.Routes.{routes, is_usable, usable_routes, has_pending}
-use Rattle.route_events.specs.Dispatch.{carriers, free_carriers, best, send, stream_after, alt_used, opening, opened_beside, is_in_use, first_alternative, decide, dispatch}
+use Rattle.route_events.specs.Dispatch.{carriers, free_carriers, best, send, opening, opened_beside, is_in_use, first_alternative, decide, dispatch}
 use Rattle.route_events.specs.Step.{with_actions, settle}
 use Rattle.route_events.specs.Headline.{MaySend, MayRefuse, MayWait, IsAllowed, EachAction}
 use Rattle.route_events.proofs.Lists.{IsIn, AreApart, contradicts, nat_eq-self, in_filter, find_apart, none_left, some_in, any_from_in, all_from_in, not_true, not_false}

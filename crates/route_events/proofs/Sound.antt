@@ -1,6 +1,6 @@
 -- What numbers mean in each journal of a run: attempts are counted, requests and connections have numbers of their
 -- own, and what is outstanding stands where it was sent.
-use Rattle.std.proofs.Common.{◌≡◌, ◌⊎◌, inl, inr, ℕ, ◌+◌, ◌<◌, ◌≤◌, Bool, true, false, cond, not, ◌&&◌, ◌||◌, nat_eq, nat_lt, nat_le, List, [], ◌∷◌, ◌++◌, length, Option, Some, None, is_some, filter, find, refl, ap, sym, ◌∙◌, subst, arith, true≢false}
+use Rattle.std.proofs.Common.{◌≡◌, ◌⊎◌, inl, inr, ℕ, ◌+◌, ◌<◌, ◌≤◌, Bool, true, false, cond, not, ◌||◌, nat_eq, nat_lt, nat_le, List, [], ◌∷◌, ◌++◌, length, Option, Some, None, is_some, find, refl, ap, sym, ◌∙◌, subst, arith, true≢false}
 use Rattle.std.specs.Option.{option_map, option_map_or}
 use Rattle.std.proofs.lemmas.List.{length-append}
 use Rattle.coalescing.specs.declared.cert_name.CertName.{CertName}
@@ -19,7 +19,7 @@ use Rattle.route_events.specs.declared.refusal.StepRefusal.{StepRefusal}
 use Rattle.route_events.specs.declared.refusal.StepRefusal.TheVariants.{NumberNotAbove, NoSuchAttempt, NoSuchConn}
 use Rattle.route_events.specs.Journal.{Happened, Taken, Journal, newest_moment, step_count, with_end}
 use Rattle.route_events.specs.Attempts.{attempts, has_ended, pending, pending_attempt, is_pending}
-use Rattle.route_events.specs.Requests.{Standing, Waits, OutOn, Over, requests, newest_number, standing, waits}
+use Rattle.route_events.specs.Requests.{Standing, OutOn, Over, requests, newest_number, standing, waits}
 use Rattle.route_events.specs.Connections.{connections, closes, is_open, open_connections, is_open_number, outstanding, send_count, without}
 use Rattle.std.specs.List.{list_any}
 use Rattle.route_events.specs.Step.{refusal}

@@ -1,5 +1,5 @@
 -- Which connection is authoritative for an origin (RFC 9110 4.3; RFC 9113 9.1.1; RFC 8336 2.4).
-use Rattle.std.specs.Prelude.{ℕ, Bool, true, false, not, ◌&&◌, ◌||◌, nat_eq, List, if◌then◌else◌}
+use Rattle.std.specs.Prelude.{ℕ, Bool, true, false, not, ◌&&◌, ◌||◌, nat_eq, if◌then◌else◌}
 use Rattle.coalescing.specs.Covers.{covers}
 use Rattle.origin_values.specs.Equality.{origin_eq, host_eq}
 use Rattle.origin_values.specs.declared.scheme.Scheme.{Scheme}

@@ -1,5 +1,5 @@
 -- What a client promises of its actions.
-use Rattle.std.specs.Prelude.{◌≡◌, ◌⊎◌, ℕ, true, false, List, [], ◌∷◌, ◌++◌, Option, Some, All, Any}
+use Rattle.std.specs.Prelude.{◌≡◌, ◌⊎◌, ℕ, true, false, [], ◌∷◌, ◌++◌, Option, Some, All, Any}
 use Rattle.origin_values.specs.declared.host.Host.{Host}
 use Rattle.route_events.specs.declared.action.Action.{Action}
 use Rattle.route_events.specs.declared.action.Action.TheVariants as action

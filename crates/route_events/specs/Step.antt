@@ -1,5 +1,5 @@
 -- Steps and runs.
-use Rattle.std.specs.Prelude.{◌≡◌, ℕ, Bool, true, false, nat_eq, nat_lt, nat_le, List, [], ◌∷◌, ◌++◌, map, Option, Some, None, is_some, if◌then◌else◌}
+use Rattle.std.specs.Prelude.{◌≡◌, ℕ, true, false, nat_eq, nat_lt, nat_le, List, [], ◌∷◌, ◌++◌, map, Option, Some, None, is_some, if◌then◌else◌}
 use Rattle.route_events.specs.declared.fact.Fact.{Fact}
 use Rattle.route_events.specs.declared.fact.Fact.TheVariants as fact
 use Rattle.route_events.specs.declared.action.Action.{Action}
@@ -7,7 +7,7 @@ use Rattle.route_events.specs.declared.action.Action.TheVariants as action
 use Rattle.route_events.specs.declared.refusal.StepRefusal.{StepRefusal}
 use Rattle.route_events.specs.declared.refusal.StepRefusal.TheVariants.{Spent, TimeBack, NumberNotAbove, NoSuchAttempt, NoSuchConn}
 use Rattle.route_events.specs.declared.request.Request.{Request}
-use Rattle.route_events.specs.Journal.{Entry, Happened, Taken, Journal, step_count, newest_moment}
+use Rattle.route_events.specs.Journal.{Happened, Taken, Journal, step_count, newest_moment}
 use Rattle.route_events.specs.Attempts.{is_pending}
 use Rattle.route_events.specs.Requests.{newest_number, waiting}
 use Rattle.route_events.specs.Connections.{is_open_number, outstanding}

@@ -1,14 +1,11 @@
 -- What an action changes of the tables is what it changes in the journal.
-use Rattle.std.proofs.Common.{◌≡◌, ℕ, ◌+◌, ◌<◌, Bool, true, false, cond, not, nat_eq, List, [], ◌∷◌, ◌++◌, map, filter, length, Option, Some, None, refl, ap, sym, ◌∙◌, subst, arith}
+use Rattle.std.proofs.Common.{◌≡◌, ℕ, ◌+◌, Bool, true, false, cond, not, nat_eq, List, [], ◌∷◌, ◌++◌, map, length, Option, refl, ap, sym, ◌∙◌, arith}
 use Rattle.std.proofs.lemmas.List.{length-append}
-use Rattle.std.specs.List.{list_any}
 use Rattle.origin_values.specs.declared.host.Host.{Host}
 use Rattle.origin_values.specs.declared.origin.Origin.{Origin}
 use Rattle.route_events.specs.declared.action.Action.{Action}
-use Rattle.route_events.specs.declared.action.Action.TheVariants.{OpenTo, SendOn, Refuse, Lost}
+use Rattle.route_events.specs.declared.action.Action.TheVariants.{OpenTo, SendOn, Refuse}
 use Rattle.route_events.specs.declared.route.Route.{Route}
-use Rattle.route_events.specs.declared.route.Route.TheVariants.{Direct}
-use Rattle.route_events.specs.declared.request.Request.{Request}
 use Rattle.route_events.specs.declared.attempt.Attempt.{Attempt}
 use Rattle.route_events.specs.declared.connection.Connection.{Connection}
 use Rattle.route_events.specs.Journal.{Taken, Journal}
@@ -18,7 +15,6 @@ use Rattle.route_events.specs.Routes.{was_tried}
 use Rattle.route_events.proofs.Lists.{nat_eq-flip}
 use Rattle.route_events.proofs.Sound.{Sound}
 use Rattle.route_events.proofs.Quiet.{pending_more}
-use Rattle.router_core.specs.declared.open_connection.OpenConnection.{OpenConnection}
 use Rattle.router_core.specs.declared.tables.Tables.{Tables}
 use Rattle.router_core.specs.declared.waiting.Waiting.{Waiting}
 use Rattle.router_core.specs.OpenConnections.{kept_of, sent_on}

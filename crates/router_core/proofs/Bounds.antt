@@ -1,5 +1,5 @@
 -- How far settling raises the counts that a router keeps.
-use Rattle.std.proofs.Common.{◌≡◌, ℕ, suc, ◌+◌, ◌<◌, ◌≤◌, Bool, true, false, cond, nat_eq, List, [], ◌∷◌, ◌++◌, map, length, Option, Some, None, find, refl, ap, sym, ◌∙◌, arith, subst, filter, not, nat_lt, is_some, true≢false}
+use Rattle.std.proofs.Common.{◌≡◌, ℕ, suc, ◌+◌, ◌<◌, ◌≤◌, Bool, true, false, cond, nat_eq, List, [], ◌∷◌, ◌++◌, map, length, Option, Some, None, find, refl, ap, arith, filter, not, nat_lt, is_some, true≢false}
 use Rattle.std.specs.Prelude.{max}
 use Rattle.std.specs.List.{list_any}
 use Rattle.std.proofs.lemmas.List.{length-append}
@@ -9,7 +9,6 @@ use Rattle.origin_values.specs.declared.address.Addr.{Addr}
 use Rattle.route_events.specs.declared.attempt.Attempt.{Attempt}
 use Rattle.route_events.specs.declared.fact.Fact.{Fact}
 use Rattle.route_events.specs.declared.fact.Fact.TheVariants.{Request, Opened, Failed, Closed, Tick}
-use Rattle.route_events.specs.declared.refusal.StepRefusal.{StepRefusal}
 use Rattle.route_events.specs.declared.refusal.StepRefusal.TheVariants.{Spent, TimeBack}
 use Rattle.route_events.specs.declared.action.Action.{Action}
 use Rattle.route_events.specs.declared.action.Action.TheVariants.{OpenTo, SendOn, Refuse, Lost}
@@ -22,7 +21,6 @@ use Rattle.router_core.specs.declared.step_state.StepState.{StepState}
 use Rattle.router_core.specs.OpenConnections.{authorises, sent_on, most_sends}
 use Rattle.router_core.specs.WaitingRequests.{is_tried, tried_after}
 use Rattle.router_core.specs.Reasons.{reason_of, reason_of_fact}
-use Rattle.router_core.specs.Tables.{after}
 use Rattle.router_core.specs.Choices.{is_free, otherwise, by_connection, choice, after_choice, waits_on}
 use Rattle.router_core.specs.StepStates.{settled_by, settle_over, attempt_among, ended, opened, made_of, begun_of, with_effect}
 

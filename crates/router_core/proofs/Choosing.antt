@@ -1,31 +1,26 @@
 -- What a router chooses is what dispatch decides.
-use Rattle.std.proofs.Common.{◌≡◌, ℕ, ◌+◌, Bool, true, false, cond, not, ◌&&◌, ◌||◌, List, [], ◌∷◌, ◌++◌, map, filter, find, Option, Some, None, refl, ap, sym, ◌∙◌, subst, true≢false}
+use Rattle.std.proofs.Common.{◌≡◌, ℕ, ◌+◌, Bool, true, false, cond, not, ◌&&◌, ◌||◌, List, [], ◌∷◌, map, filter, find, Option, Some, None, refl, ap, sym, ◌∙◌}
 use Rattle.std.specs.Option.{option_map}
 use Rattle.std.specs.List.{list_any}
 use Rattle.coalescing.specs.Covers.{covers}
 use Rattle.origin_values.specs.declared.origin.Origin.{Origin}
-use Rattle.route_events.specs.declared.action.Action.{Action}
-use Rattle.route_events.specs.declared.action.Action.TheVariants.{OpenTo, SendOn, Refuse}
+use Rattle.route_events.specs.declared.action.Action.TheVariants.{OpenTo, Refuse}
 use Rattle.route_events.specs.declared.route.Route.{Route}
 use Rattle.route_events.specs.declared.route.Route.TheVariants.{Direct}
-use Rattle.route_events.specs.declared.request.Request.{Request}
-use Rattle.route_events.specs.declared.attempt.Attempt.{Attempt}
 use Rattle.route_events.specs.declared.connection.Connection.{Connection}
 use Rattle.route_events.specs.Journal.{Journal}
-use Rattle.route_events.specs.Attempts.{attempts, pending, next_attempt}
 use Rattle.route_events.specs.Connections.{connections, is_open, open_connections, is_busy}
 use Rattle.route_events.specs.Authority.{is_https, is_tls, is_authoritative, has_basis}
 use Rattle.route_events.specs.Routes.{is_on, was_tried, has_pending}
 use Rattle.route_events.specs.Dispatch.{is_by_alternative, carriers, free_carriers, first_of, or_else, best, decide, dispatch}
 use Rattle.route_events.proofs.Lists.{IsIn, in_filter, filter_same, filter_twice}
 use Rattle.route_events.proofs.Quiet.{is_none_left}
-use Rattle.router_core.specs.declared.open_connection.OpenConnection.{OpenConnection}
 use Rattle.router_core.specs.declared.tables.Tables.{Tables}
 use Rattle.router_core.specs.declared.waiting.Waiting.{Waiting}
 use Rattle.router_core.specs.OpenConnections.{kept_of, authorises, is_occupied}
 use Rattle.router_core.specs.WaitingRequests.{is_tried}
 use Rattle.router_core.specs.Tables.{Hold}
-use Rattle.router_core.specs.Choices.{is_free, otherwise, by_connection, choice, listed}
+use Rattle.router_core.specs.Choices.{is_free, otherwise, choice, listed}
 use Rattle.router_core.proofs.Listing.{filter_map, find_first, first_map, filter_all, filter_none, any_filter, none_left_map}
 use Rattle.alt_base.proofs.Conjunctions.{both}
 

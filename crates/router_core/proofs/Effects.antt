@@ -1,5 +1,5 @@
 -- The effect of a fact on what a router keeps is its effect on the journal.
-use Rattle.std.proofs.Common.{◌≡◌, ◌⊎◌, inl, inr, ℕ, ◌+◌, ◌<◌, ◌≤◌, Bool, true, false, cond, not, ◌&&◌, ◌||◌, nat_eq, List, [], ◌∷◌, ◌++◌, map, filter, find, length, Option, Some, None, is_some, refl, ap, sym, ◌∙◌, subst, arith, append-nil, true≢false}
+use Rattle.std.proofs.Common.{◌≡◌, inl, inr, ℕ, ◌<◌, Bool, true, false, cond, not, ◌&&◌, ◌||◌, nat_eq, List, [], ◌∷◌, ◌++◌, map, filter, Option, Some, None, refl, ap, sym, ◌∙◌, subst, arith, true≢false}
 use Rattle.std.specs.Option.{option_map, option_map_or}
 use Rattle.std.specs.List.{list_any}
 use Rattle.std.proofs.lemmas.List.Folds.{list_any-append}
@@ -10,7 +10,6 @@ use Rattle.origin_values.specs.declared.proto.Proto.{Proto}
 use Rattle.origin_values.specs.declared.address.Addr.{Addr}
 use Rattle.route_events.specs.declared.fact.Fact.{Fact}
 use Rattle.route_events.specs.declared.fact.Fact.TheVariants as fact
-use Rattle.route_events.specs.declared.action.Action.{Action}
 use Rattle.route_events.specs.declared.action.Action.TheVariants.{Lost}
 use Rattle.route_events.specs.declared.route.Route.{Route}
 use Rattle.route_events.specs.declared.route.Route.TheVariants.{Direct}
@@ -18,26 +17,24 @@ use Rattle.route_events.specs.declared.request.Request.{Request}
 use Rattle.route_events.specs.declared.attempt.Attempt.{Attempt}
 use Rattle.route_events.specs.declared.connection.Connection.{Connection}
 use Rattle.route_events.specs.Journal.{Happened, Taken, Journal}
-use Rattle.route_events.specs.Attempts.{attempts, has_ended, pending, pending_attempt, is_pending}
-use Rattle.route_events.specs.Requests.{Standing, Waits, OutOn, Over, requests, newest_number, standing, waits, waiting}
+use Rattle.route_events.specs.Attempts.{attempts, has_ended, pending, pending_attempt}
+use Rattle.route_events.specs.Requests.{Standing, OutOn, Over, requests, newest_number, standing, waits, waiting}
 use Rattle.route_events.specs.Connections.{connections, closes, is_open, open_connections, is_open_number, outstanding, without}
 use Rattle.route_events.specs.Authority.{is_success, is_upheld}
-use Rattle.route_events.specs.Routes.{route_eq, is_on, was_tried}
-use Rattle.route_events.specs.Step.{with_actions, with_fact, effects, newest_actions}
-use Rattle.route_events.proofs.Lists.{IsIn, nat_eq-self, nat_eq-flip, nat_eq-below, same_number, in_filter, filter_in, filter_same, filter_same_in, filter_end, filter_twice, not_true, contradicts}
-use Rattle.route_events.proofs.Sound.{Sound, IsStarted, started_of, IsOpened, opened_of}
+use Rattle.route_events.specs.Routes.{route_eq, was_tried}
+use Rattle.route_events.specs.Step.{with_actions}
+use Rattle.route_events.proofs.Lists.{IsIn, nat_eq-self, nat_eq-flip, nat_eq-below, same_number, in_filter, filter_same, filter_same_in, filter_end, filter_twice, not_true}
+use Rattle.route_events.proofs.Sound.{Sound, opened_of}
 use Rattle.router_core.specs.declared.open_connection.OpenConnection.{OpenConnection}
 use Rattle.router_core.specs.declared.tables.Tables.{Tables}
 use Rattle.router_core.specs.declared.waiting.Waiting.{Waiting}
-use Rattle.router_core.specs.declared.step_state.StepState.{StepState}
 use Rattle.router_core.specs.OpenConnections.{kept_of}
 use Rattle.router_core.specs.WaitingRequests.{is_tried, tried_after, AreTried}
 use Rattle.router_core.specs.Tables.{Hold}
-use Rattle.router_core.specs.StepStates.{attempt_among, other_attempts, with_end, made_of, begun_of, connection_among, other_connections, out_on}
+use Rattle.router_core.specs.StepStates.{other_attempts, made_of, begun_of, connection_among, other_connections, out_on}
 use Rattle.router_core.specs.StandsFor.{requests_of}
 use Rattle.router_core.proofs.Listing.{map_append, map_same_in, filter_map, find_map}
 use Rattle.router_core.proofs.Applying.{tried_taken, tried_append}
-use Rattle.router_core.proofs.SettlingSo.{Keeps}
 
 or_not : (a b : Bool) → not (a || b) ≡ (not b && not a)
 or_not true true = refl

@@ -1,13 +1,12 @@
 -- Settling what a router keeps is settling the journal.
-use Rattle.std.proofs.Common.{◌≡◌, ◌⊎◌, inl, inr, ℕ, ◌+◌, Bool, true, false, cond, not, nat_eq, List, [], ◌∷◌, ◌++◌, map, filter, find, Option, Some, None, refl, ap, sym, ◌∙◌, subst, append_assoc, append-nil, true≢false}
-use Rattle.std.specs.Option.{option_map_or}
+use Rattle.std.proofs.Common.{◌≡◌, inl, ℕ, ◌+◌, Bool, true, false, cond, List, [], ◌∷◌, ◌++◌, filter, find, Option, Some, None, refl, ap, sym, ◌∙◌, subst, append_assoc, append-nil}
 use Rattle.route_events.specs.declared.action.Action.{Action}
 use Rattle.route_events.specs.declared.action.Action.TheVariants.{OpenTo, SendOn, Refuse, Lost}
 use Rattle.route_events.specs.declared.route.Route.{Route}
 use Rattle.route_events.specs.declared.route.Route.TheVariants.{Direct}
 use Rattle.route_events.specs.declared.request.Request.{Request}
 use Rattle.route_events.specs.Journal.{Taken, Journal, newest_moment}
-use Rattle.route_events.specs.Requests.{Standing, Waits, OutOn, Over, requests, standing, waits, waiting}
+use Rattle.route_events.specs.Requests.{requests, standing, waits, waiting}
 use Rattle.route_events.specs.Routes.{was_tried}
 use Rattle.route_events.specs.Dispatch.{dispatch}
 use Rattle.route_events.specs.Step.{with_actions, settle, newest_actions}
@@ -18,7 +17,7 @@ use Rattle.router_core.specs.declared.tables.Tables.{Tables}
 use Rattle.router_core.specs.declared.waiting.Waiting.{Waiting}
 use Rattle.router_core.specs.declared.step_state.StepState.{StepState}
 use Rattle.router_core.specs.WaitingRequests.{is_tried, AreTried}
-use Rattle.router_core.specs.Tables.{Hold, after}
+use Rattle.router_core.specs.Tables.{Hold}
 use Rattle.router_core.specs.Choices.{is_free, otherwise, by_connection, choice, listed, after_choice, waits_on}
 use Rattle.router_core.specs.declared.open_connection.OpenConnection.{OpenConnection}
 use Rattle.router_core.specs.OpenConnections.{authorises}

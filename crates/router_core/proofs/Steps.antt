@@ -1,5 +1,5 @@
 -- A router's step is the journal's step.
-use Rattle.std.proofs.Common.{◌≡◌, ◌⊎◌, ℕ, ◌+◌, ◌<◌, ◌≤◌, Bool, true, false, cond, not, ◌&&◌, nat_eq, nat_lt, nat_le, List, [], ◌∷◌, ◌++◌, map, filter, find, Option, Some, None, is_some, refl, ap, sym, ◌∙◌, subst, arith, append_assoc, append-nil, Result, Ok, Err, IfOk}
+use Rattle.std.proofs.Common.{◌≡◌, ℕ, ◌+◌, ◌<◌, Bool, true, false, cond, not, nat_eq, nat_lt, nat_le, List, [], ◌∷◌, ◌++◌, map, filter, find, Option, Some, None, is_some, refl, ap, sym, ◌∙◌, subst, arith, append_assoc, append-nil, Result, Ok, Err, IfOk}
 use Rattle.std.specs.Option.{option_map}
 use Rattle.route_events.specs.declared.fact.Fact.{Fact}
 use Rattle.route_events.specs.declared.fact.Fact.TheVariants as fact
@@ -7,20 +7,18 @@ use Rattle.route_events.specs.declared.action.Action.{Action}
 use Rattle.route_events.specs.declared.action.Action.TheVariants.{SendOn, Refuse, Lost}
 use Rattle.route_events.specs.Headline.{SendsOnlyOn, RefusesOnlyWhere}
 use Rattle.route_events.specs.declared.request.Request.{Request}
-use Rattle.route_events.specs.declared.attempt.Attempt.{Attempt}
 use Rattle.route_events.specs.declared.connection.Connection.{Connection}
 use Rattle.route_events.specs.declared.refusal.StepRefusal.{StepRefusal}
 use Rattle.route_events.specs.declared.refusal.StepRefusal.TheVariants.{Spent, TimeBack, NumberNotAbove, NoSuchAttempt, NoSuchConn}
 use Rattle.route_events.specs.Journal.{Happened, Taken, Journal, step_count, newest_moment}
-use Rattle.route_events.specs.Attempts.{pending_attempt, is_pending}
 use Rattle.route_events.specs.Requests.{requests, newest_number, standing, waits, waiting}
 use Rattle.route_events.specs.Connections.{open_connections, is_open_number, outstanding}
 use Rattle.route_events.specs.Dispatch.{dispatch}
-use Rattle.route_events.specs.Step.{IsRun, Stepped, refusal, fact_refusal, with_actions, with_fact, effects, settle, settled, step, newest_actions}
+use Rattle.route_events.specs.Step.{IsRun, Stepped, refusal, fact_refusal, with_actions, with_fact, effects, settle, step, newest_actions}
 use Rattle.route_events.proofs.Lists.{IsIn, AreApart, apart_filter}
 use Rattle.route_events.proofs.Sound.{Sound, sound_fact, above_newest, opened_pending, failed_pending, closed_open, IsStarted, started_of}
 use Rattle.route_events.proofs.Settles.{Settles, effected}
-use Rattle.route_events.proofs.Runs.{IsSettled, each, allowed_at, all_settled, are_effects, waiting_in}
+use Rattle.route_events.proofs.Runs.{each, allowed_at, all_settled, are_effects, waiting_in}
 use Rattle.router_core.specs.declared.open_connection.OpenConnection.{OpenConnection}
 use Rattle.router_core.specs.declared.router.Router.{Router}
 use Rattle.router_core.specs.declared.tables.Tables.{Tables}

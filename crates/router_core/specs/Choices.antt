@@ -1,5 +1,5 @@
 -- What is done for a waiting request, by what a router keeps.
-use Rattle.std.specs.Prelude.{ℕ, ◌+◌, Bool, true, false, not, ◌&&◌, List, [], ◌∷◌, ◌++◌, Option, Some, None, if◌then◌else◌, find}
+use Rattle.std.specs.Prelude.{◌+◌, Bool, true, false, not, ◌&&◌, List, [], ◌∷◌, Option, Some, None, if◌then◌else◌, find}
 use Rattle.std.specs.List.{list_any}
 use Rattle.origin_values.specs.declared.origin.Origin.{Origin}
 use Rattle.route_events.specs.declared.action.Action.{Action}

@@ -1,5 +1,5 @@
 -- Why a step isn't taken, by what a router keeps.
-use Rattle.std.specs.Prelude.{ℕ, Bool, nat_eq, nat_lt, nat_le, Option, Some, None, is_some, if◌then◌else◌}
+use Rattle.std.specs.Prelude.{ℕ, nat_eq, nat_lt, Option, Some, None, is_some, if◌then◌else◌}
 use Rattle.route_events.specs.declared.fact.Fact.{Fact}
 use Rattle.route_events.specs.declared.fact.Fact.TheVariants.{Request, Opened, Failed, Closed, Tick}
 use Rattle.route_events.specs.declared.refusal.StepRefusal.{StepRefusal}

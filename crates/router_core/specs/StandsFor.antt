@@ -1,6 +1,6 @@
 -- Which journals a router stands for: what it keeps is what the journal says. It keeps nothing else, so that a router
 -- may forget what no later step can ask for.
-use Rattle.std.specs.Prelude.{◌≡◌, ℕ, List, map, Option, Some, None}
+use Rattle.std.specs.Prelude.{◌≡◌, ℕ, List, map, Some, None}
 use Rattle.route_events.specs.declared.fact.Fact.{Fact}
 use Rattle.route_events.specs.declared.action.Action.{Action}
 use Rattle.route_events.specs.declared.request.Request.{Request}

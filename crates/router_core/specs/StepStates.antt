@@ -1,6 +1,5 @@
 -- What settling, and the effect of a fact, make of the state of a step.
-use Rattle.std.specs.Prelude.{ℕ, Bool, not, nat_eq, List, [], ◌∷◌, ◌++◌, Option, Some, None, if◌then◌else◌, map, filter, find}
-use Rattle.std.specs.Option.{option_map_or}
+use Rattle.std.specs.Prelude.{ℕ, not, nat_eq, List, [], ◌∷◌, ◌++◌, Option, Some, None, if◌then◌else◌, map, filter, find}
 use Rattle.coalescing.specs.declared.cert_name.CertName.{CertName}
 use Rattle.origin_values.specs.declared.address.Addr.{Addr}
 use Rattle.origin_values.specs.declared.origin.Origin.{Origin}
@@ -13,7 +12,6 @@ use Rattle.route_events.specs.declared.attempt.Attempt.{Attempt}
 use Rattle.route_events.specs.declared.connection.Connection.{Connection}
 use Rattle.route_events.specs.Authority.{is_success}
 use Rattle.router_core.specs.declared.open_connection.OpenConnection.{OpenConnection}
-use Rattle.router_core.specs.declared.tables.Tables.{Tables}
 use Rattle.router_core.specs.declared.waiting.Waiting.{Waiting}
 use Rattle.router_core.specs.declared.step_state.StepState.{StepState}
 use Rattle.router_core.specs.WaitingRequests.{tried_after}

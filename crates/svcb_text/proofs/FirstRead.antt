@@ -1,25 +1,19 @@
 -- The parameter at the front of a text: what the grammar says is what is read.
-use Rattle.std.proofs.Common.{◌≡◌, ℕ, ◌+◌, ◌<◌, ◌≤◌, Bool, true, false, cond, nat_eq, List, [], ◌∷◌, ◌++◌, length, drop, Option, Some, None, Result, Ok, Err, refl, ap, sym, ◌∙◌, subst, arith, inl, inr}
-use Rattle.std.proofs.lemmas.List.{append_assoc, append-nil, length-append, drop_at}
-use Rattle.alt_base.specs.declared.refusal.At.{At}
+use Rattle.std.proofs.Common.{◌≡◌, ℕ, ◌+◌, ◌<◌, Bool, true, false, cond, nat_eq, List, [], ◌∷◌, ◌++◌, length, Option, Some, None, Ok, refl, ap, sym, ◌∙◌, subst, arith, inl}
+use Rattle.std.proofs.lemmas.List.{append_assoc, length-append}
 use Rattle.dns_names.specs.Names.{AreBytes}
-use Rattle.dns_names.specs.TextParts.{Part}
-use Rattle.field_text.specs.BlanksGrammar.{is_blank}
 use Rattle.field_text.specs.Runs.{run_of, after_run}
 use Rattle.svcb_wire.specs.declared.param.Param.{Param}
 use Rattle.svcb_wire.specs.Usable.{has_key}
-use Rattle.dns_names.proofs.Bytes.{bytes_front, bytes_back}
+use Rattle.dns_names.proofs.Bytes.{bytes_back}
 use Rattle.svcb_text.specs.declared.refusal.RecordTextRefusal.{RecordTextRefusal}
 use Rattle.svcb_text.specs.declared.refusal.RecordTextRefusal.TheVariants.{BadPriority, BadTarget, BadKey, RepeatedKey, BadString, BadValue, Inconsistent, TooLong}
-use Rattle.svcb_text.specs.declared.token.Style.{Style}
-use Rattle.svcb_text.specs.declared.unescaped.Unescaped.{Unescaped}
 use Rattle.alt_base.specs.Answers.{refused}
 use Rattle.svcb_text.specs.KeyNames.{is_key_byte, key_name, key_named}
-use Rattle.svcb_text.specs.StringGrammar.{EndsItem, SpellsString, AreParts, string_text, meant}
-use Rattle.svcb_text.specs.StringReading.{StringAnswer, read_string, no_bytes}
-use Rattle.svcb_text.specs.ValueGrammar.{SpellsValue}
+use Rattle.svcb_text.specs.StringGrammar.{EndsItem, string_text, meant}
+use Rattle.svcb_text.specs.StringReading.{read_string, no_bytes}
 use Rattle.svcb_text.specs.ValueReading.{read_value}
-use Rattle.svcb_text.specs.TextGrammar.{GivenParam, Alone, Valued, given_key, given_head, given_string, given_value, IsGiven}
+use Rattle.svcb_text.specs.TextGrammar.{GivenParam, Alone, Valued, given_key, given_head, given_string, given_value}
 use Rattle.svcb_text.specs.TextReading.{ParamAnswer, by_value, by_string, behind_key, ends_key, by_key, first_param}
 use Rattle.svcb_text.specs.TextRefusals.{EndsKey}
 use Rattle.svcb_text.proofs.StringLaws.{string_read, string_refused, string_bytes}

@@ -1,8 +1,8 @@
 -- The priority and the target in front of a record's text.
-use Rattle.std.proofs.Common.{◌≡◌, ◌≢◌, ◌⊎◌, ℕ, ◌+◌, ◌<◌, ◌≤◌, Bool, true, false, cond, nat_eq, nat_le, nat_lt, min, List, [], ◌∷◌, ◌++◌, length, Option, Some, None, Ok, Err, refl, ap, sym, ◌∙◌, subst, arith, inl, inr}
+use Rattle.std.proofs.Common.{◌≡◌, ◌≢◌, ◌⊎◌, ℕ, ◌+◌, ◌≤◌, Bool, true, false, cond, nat_eq, nat_le, nat_lt, List, [], ◌∷◌, ◌++◌, length, Option, Some, None, Ok, refl, ap, sym, ◌∙◌, subst, arith, inl, inr}
 use Rattle.std.specs.Char.{is_ascii_digit, is_ascii_graphic}
 use Rattle.std.specs.Int.{IsInRange}
-use Rattle.std.specs.Str.Parse.{AllDigits, IsNumeral, digits_value}
+use Rattle.std.specs.Str.Parse.{AllDigits, IsNumeral}
 use Rattle.std.proofs.lemmas.Bool.Decides.{nat_tests}
 use Rattle.std.proofs.lemmas.List.{append_assoc, length-append}
 use Rattle.std.proofs.lemmas.Str.Parse.{digit_from_value}
@@ -13,15 +13,14 @@ use Rattle.field_text.specs.DeltaReading.{read_delta_seconds}
 use Rattle.field_text.specs.Runs.{AllIn, BeginsIn, run_of, after_run}
 use Rattle.field_text.proofs.DeltaLemmas.{says_some, delta_spelled}
 use Rattle.field_text.proofs.RunLemmas.{run_of-append, after_run-append}
-use Rattle.dns_names.specs.TextGrammar.{JoinsLabels, SpellsText}
+use Rattle.dns_names.specs.TextGrammar.{SpellsText}
 use Rattle.dns_names.specs.TextParts.{Part, Raw, Quoted, Decimal, part_text, parts_text, IsPart, AreParts, dotted, AreAllParts}
 use Rattle.dns_names.specs.TextReading.{read_text}
 use Rattle.dns_names.proofs.TextSpelled.{spelled_reads as name_reads}
 use Rattle.alt_base.proofs.Numbers.{eq_false, lt_false}
-use Rattle.svcb_text.specs.declared.refusal.RecordTextRefusal.{RecordTextRefusal}
 use Rattle.svcb_text.specs.StringGrammar.{EndsItem}
-use Rattle.svcb_text.specs.TextGrammar.{AreBlanks, SpellsPriority, Front, front_text, SpellsFront}
-use Rattle.svcb_text.specs.TextReading.{RecordAnswer, item_of, after_item, priority_of, by_priority, from_priority, by_target, behind_priority, with_params, read_params, read_record_text}
+use Rattle.svcb_text.specs.TextGrammar.{SpellsPriority, Front, front_text, SpellsFront}
+use Rattle.svcb_text.specs.TextReading.{item_of, after_item, priority_of, by_priority, from_priority, by_target, behind_priority, with_params, read_params, read_record_text}
 use Rattle.svcb_text.proofs.Items.{no_blank, item_is, rest_is, ends_with_blanks}
 
 above_blanks : (b : ℕ) → 33 ≤ b → no_blank b ≡ true

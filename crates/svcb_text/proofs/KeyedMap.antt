@@ -1,5 +1,5 @@
 -- The map of the parameters that were found, by their keys.
-use Rattle.std.proofs.Common.{◌≡◌, ◌≢◌, ℕ, ◌<◌, ◌≤◌, Bool, true, false, cond, ◌||◌, nat_eq, nat_lt, List, [], ◌∷◌, Option, Some, None, refl, ap, sym, ◌∙◌, arith}
+use Rattle.std.proofs.Common.{◌≡◌, ◌≢◌, ℕ, Bool, true, false, cond, ◌||◌, nat_eq, nat_lt, List, [], ◌∷◌, Some, refl, ap, sym, ◌∙◌, arith}
 use Rattle.std.specs.BTreeMap.{insert_entry, is_at}
 use Rattle.std.specs.Map.{values_of, lookup}
 use Rattle.std.specs.Option.{is_some}
@@ -7,7 +7,7 @@ use Rattle.std.specs.Ordering.{nat_cmp, is_eq}
 use Rattle.svcb_wire.specs.declared.param.Param.{Param}
 use Rattle.svcb_wire.specs.Octets.{key_of}
 use Rattle.svcb_wire.specs.Usable.{has_key}
-use Rattle.alt_base.proofs.Numbers.{eq_true, eq_false, true_eq, false_eq, lt_true, lt_false, true_lt, false_lt}
+use Rattle.alt_base.proofs.Numbers.{eq_false, true_eq, false_eq, lt_true, lt_false, true_lt, false_lt}
 use Rattle.svcb_text.specs.ParamOrder.{AreKeyed, placed}
 
 abbrev Entries : Type 0

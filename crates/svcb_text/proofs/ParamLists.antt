@@ -1,20 +1,18 @@
 -- The parameters of a text: what is read, against the grammar.
-use Rattle.std.proofs.Common.{◌≡◌, ◌≢◌, ℕ, zero, suc, ◌+◌, ◌<◌, ◌≤◌, Bool, true, false, List, [], ◌∷◌, ◌++◌, length, drop, Result, Ok, Err, refl, ap, sym, ◌∙◌, subst, arith}
+use Rattle.std.proofs.Common.{◌≡◌, ◌≢◌, ℕ, zero, suc, ◌+◌, ◌<◌, ◌≤◌, false, List, [], ◌∷◌, ◌++◌, length, drop, Ok, Err, refl, ap, sym, ◌∙◌, subst, arith}
 use Rattle.std.proofs.lemmas.List.{append_assoc, append-nil, length-append, drop_at}
-use Rattle.alt_base.specs.declared.refusal.At.{At}
 use Rattle.dns_names.specs.Names.{AreBytes}
 use Rattle.field_text.specs.BlanksGrammar.{is_blank}
-use Rattle.field_text.specs.BlanksReading.{read_blanks, after_blanks}
-use Rattle.field_text.specs.Runs.{AllIn, BeginsIn, run_of, IsLongestRun}
+use Rattle.field_text.specs.BlanksReading.{after_blanks}
+use Rattle.field_text.specs.Runs.{AllIn, BeginsIn, run_of}
 use Rattle.field_text.proofs.RunLemmas.{longest_run}
 use Rattle.svcb_wire.specs.declared.param.Param.{Param}
-use Rattle.svcb_wire.specs.Octets.{key_of}
 use Rattle.svcb_wire.specs.Usable.{has_key}
 use Rattle.dns_names.proofs.Bytes.{bytes_back}
 use Rattle.svcb_text.specs.declared.refusal.RecordTextRefusal.{RecordTextRefusal}
 use Rattle.svcb_text.specs.ParamOrder.{placed, all_placed}
 use Rattle.svcb_text.specs.StringGrammar.{EndsItem}
-use Rattle.svcb_text.specs.TextGrammar.{given_key, given_head, given_string, given_value, AreBlanks, Spaced, spaced_text, spaced_texts, SpellsParam, SpellEach}
+use Rattle.svcb_text.specs.TextGrammar.{given_key, given_head, given_string, given_value, AreBlanks, Spaced, spaced_texts, SpellEach}
 use Rattle.svcb_text.specs.TextReading.{ParamAnswer, ParamsAnswer, first_param, by_param, params_from, params_behind}
 use Rattle.svcb_text.proofs.ValueLaws.{value_of_key}
 use Rattle.svcb_text.proofs.ParamKeys.{AreFresh}

@@ -1,6 +1,6 @@
 -- The parameters of a text: what the grammar says is what is read.
-use Rattle.std.proofs.Common.{◌≡◌, ◌≢◌, ℕ, zero, suc, ◌+◌, ◌<◌, ◌≤◌, Bool, true, false, List, [], ◌∷◌, ◌++◌, length, drop, Result, Ok, Err, refl, ap, sym, ◌∙◌, subst, arith, inr}
-use Rattle.std.proofs.lemmas.List.{append_assoc, append-nil, length-append, drop_at}
+use Rattle.std.proofs.Common.{◌≡◌, ◌≢◌, ℕ, zero, suc, ◌+◌, ◌<◌, ◌≤◌, Bool, true, false, List, [], ◌∷◌, ◌++◌, length, drop, Ok, Err, refl, ap, sym, ◌∙◌, subst, arith, inr}
+use Rattle.std.proofs.lemmas.List.{append_assoc, append-nil, length-append}
 use Rattle.alt_base.specs.declared.refusal.At.{At}
 use Rattle.field_text.specs.BlanksGrammar.{is_blank}
 use Rattle.field_text.specs.BlanksReading.{read_blanks, after_blanks}
@@ -13,13 +13,13 @@ use Rattle.svcb_text.specs.declared.refusal.RecordTextRefusal.{RecordTextRefusal
 use Rattle.svcb_text.specs.KeyNames.{is_key_byte, key_name}
 use Rattle.svcb_text.specs.ParamOrder.{placed, all_placed}
 use Rattle.svcb_text.specs.StringGrammar.{EndsItem}
-use Rattle.svcb_text.specs.TextGrammar.{GivenParam, Alone, Valued, given_key, given_head, given_string, given_value, IsGiven, AreBlanks, Spaced, spaced_text, spaced_texts, SpellsParam, SpellEach}
-use Rattle.svcb_text.specs.TextReading.{ParamAnswer, ParamsAnswer, first_param, by_param, params_from, params_behind}
+use Rattle.svcb_text.specs.TextGrammar.{GivenParam, Alone, Valued, given_key, given_head, given_string, given_value, IsGiven, Spaced, spaced_texts, SpellEach}
+use Rattle.svcb_text.specs.TextReading.{ParamsAnswer, first_param, by_param, params_from, params_behind}
 use Rattle.svcb_text.proofs.KeyLaws.{name_bytes, name_some}
 use Rattle.svcb_text.proofs.ValueLaws.{value_of_key}
 use Rattle.svcb_text.proofs.ParamKeys.{AreFresh}
 use Rattle.svcb_text.proofs.Items.{ends_with_blanks, no_key_byte}
-use Rattle.svcb_text.proofs.FirstParam.{IsFirst, IsFirstParam}
+use Rattle.svcb_text.proofs.FirstParam.{IsFirstParam}
 use Rattle.svcb_text.proofs.FirstRead.{param_reads}
 use Rattle.svcb_text.proofs.ParamLists.{rest_of, param_length}
 

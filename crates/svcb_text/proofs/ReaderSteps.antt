@@ -1,7 +1,7 @@
 -- The steps of the code as steps of the reading.
-use Rattle.std.proofs.Common.{◌≡◌, ◌≢◌, ℕ, zero, suc, ◌+◌, ◌-◌, ◌<◌, ◌≤◌, Bool, true, false, cond, List, [], ◌∷◌, ◌++◌, length, take, drop, Option, Some, None, Result, Ok, Err, IfOk, refl, ap, sym, ◌∙◌, subst, arith}
-use Rattle.std.proofs.lemmas.List.{take_at, drop_at, take_rest, length-drop, length-append}
-use Rattle.std.specs.BTreeMap.{insert_entry, is_at}
+use Rattle.std.proofs.Common.{◌≡◌, ℕ, zero, suc, ◌+◌, ◌-◌, ◌<◌, ◌≤◌, Bool, true, false, cond, List, [], ◌∷◌, length, take, drop, Some, None, Result, Ok, Err, IfOk, refl, ap, sym, ◌∙◌, subst, arith}
+use Rattle.std.proofs.lemmas.List.{take_at, drop_at, take_rest, length-drop}
+use Rattle.std.specs.BTreeMap.{is_at}
 use Rattle.std.specs.Map.{values_of, lookup}
 use Rattle.std.specs.Option.{is_some}
 use Rattle.std.specs.Ordering.{nat_cmp}
@@ -10,7 +10,7 @@ use Rattle.alt_base.specs.declared.refusal.Refused.{Refused}
 use Rattle.alt_base.specs.declared.refusal.Refused.TheVariants.{NoMemory, At as RefusedThere}
 use Rattle.dns_names.specs.Names.{AreBytes}
 use Rattle.dns_names.specs.declared.refusal.NameRefusal.{NameRefusal}
-use Rattle.dns_names.specs.TextReading.{TextAnswer, read_text}
+use Rattle.dns_names.specs.TextReading.{read_text}
 use Rattle.field_text.specs.BlanksGrammar.{is_blank}
 use Rattle.field_text.specs.BlanksReading.{read_blanks, after_blanks}
 use Rattle.field_text.specs.DeltaReading.{read_delta_seconds}
@@ -25,7 +25,7 @@ use Rattle.svcb_text.specs.declared.refusal.RecordTextRefusal.TheVariants.{BadPr
 use Rattle.alt_base.specs.Answers.{refused, Answers}
 use Rattle.svcb_text.specs.KeyNames.{is_key_byte, key_named}
 use Rattle.svcb_text.specs.ParamOrder.{AreKeyed, placed}
-use Rattle.svcb_text.specs.TextReading.{ParamAnswer, ParamsAnswer, RecordAnswer, ends_key, behind_key, by_key, first_param, by_param, params_from, params_behind, read_params, finish, with_params, item_of, after_item, by_target, behind_priority, priority_of, by_priority, from_priority}
+use Rattle.svcb_text.specs.TextReading.{ParamsAnswer, ends_key, behind_key, by_key, first_param, by_param, params_from, params_behind, read_params, with_params, item_of, after_item, by_target, behind_priority, priority_of, by_priority, from_priority}
 use Rattle.svcb_text.specs.TextGrammar.{given_key, given_value}
 use Rattle.svcb_text.proofs.ValueLaws.{value_of_key}
 use Rattle.svcb_text.proofs.FirstParam.{IsFirstParam, ParamSays, first_says}

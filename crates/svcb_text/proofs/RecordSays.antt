@@ -1,7 +1,6 @@
 -- The reading of a record's text against its grammar.
-use Rattle.std.proofs.Common.{◌≡◌, ◌≢◌, ℕ, suc, ◌+◌, ◌<◌, ◌≤◌, Bool, true, false, cond, ◌||◌, nat_eq, nat_lt, List, [], ◌∷◌, ◌++◌, length, Option, Some, None, Result, Ok, Err, IfOk, refl, ap, sym, ◌∙◌, subst, arith, inl, inr}
+use Rattle.std.proofs.Common.{◌≡◌, ◌≢◌, ℕ, suc, ◌+◌, ◌≤◌, Bool, true, false, cond, ◌||◌, nat_eq, nat_lt, List, [], ◌∷◌, ◌++◌, length, Option, Some, None, Result, Ok, Err, IfOk, refl, ap, sym, ◌∙◌, subst, arith, inl, inr}
 use Rattle.std.proofs.lemmas.List.{append_assoc, length-append}
-use Rattle.alt_base.specs.declared.refusal.At.{At}
 use Rattle.alt_base.specs.declared.refusal.Refused.{Refused}
 use Rattle.alt_base.specs.declared.refusal.Refused.TheVariants.{NoMemory, At as RefusedThere}
 use Rattle.dns_names.specs.Names.{AreBytes}
@@ -12,7 +11,6 @@ use Rattle.field_text.specs.BlanksReading.{after_blanks}
 use Rattle.field_text.specs.DeltaReading.{read_delta_seconds}
 use Rattle.field_text.specs.Runs.{AllIn, BeginsIn, run_of}
 use Rattle.field_text.proofs.RunLemmas.{longest_run}
-use Rattle.svcb_wire.specs.declared.param.Param.{Param}
 use Rattle.svcb_wire.specs.declared.svcb.Svcb.{Svcb}
 use Rattle.svcb_wire.specs.Records.{record_octets}
 use Rattle.svcb_wire.specs.Usable.{has_key, is_consistent}
@@ -24,7 +22,7 @@ use Rattle.alt_base.specs.Answers.{refused, Answers, IfRefused}
 use Rattle.svcb_text.specs.KeyNames.{key_name}
 use Rattle.svcb_text.specs.ParamOrder.{all_placed}
 use Rattle.svcb_text.specs.StringGrammar.{EndsItem}
-use Rattle.svcb_text.specs.TextGrammar.{given_head, given_string, AreBlanks, spaced_texts, SpellsPriority, Front, front_text, HasForm, IsAllowed, SpellsRecordText}
+use Rattle.svcb_text.specs.TextGrammar.{given_head, given_string, spaced_texts, SpellsPriority, Front, front_text, HasForm, IsAllowed, SpellsRecordText}
 use Rattle.svcb_text.specs.TextReading.{ParamsAnswer, RecordAnswer, read_params, finish, with_params, item_of, after_item, by_target, priority_of, by_priority, from_priority, read_record_text}
 use Rattle.svcb_text.specs.TextRefusals.{GoesOn, RecordTextRefusedAt}
 use Rattle.svcb_text.proofs.ParamKeys.{fresh_distinct, new_among, none_among}

@@ -1,6 +1,5 @@
 -- What the grammar of a record's text says is what is read.
-use Rattle.std.proofs.Common.{◌≡◌, ◌≢◌, ◌⊎◌, ℕ, zero, suc, ◌+◌, ◌<◌, ◌≤◌, Bool, true, false, cond, ◌||◌, nat_eq, nat_lt, List, [], ◌∷◌, ◌++◌, length, Option, Some, None, Result, Ok, Err, refl, ap, sym, ◌∙◌, subst, arith, inl, inr}
-use Rattle.std.proofs.lemmas.List.{append_assoc, length-append}
+use Rattle.std.proofs.Common.{◌≡◌, ◌⊎◌, ℕ, zero, suc, ◌+◌, ◌<◌, ◌≤◌, Bool, true, false, cond, ◌||◌, nat_eq, nat_lt, List, [], ◌∷◌, ◌++◌, length, Option, Some, None, Ok, Err, refl, ap, sym, ◌∙◌, subst, arith, inl, inr}
 use Rattle.alt_base.specs.declared.refusal.At.{At}
 use Rattle.dns_names.specs.Names.{AreBytes}
 use Rattle.dns_names.specs.TextReading.{read_text}
@@ -19,14 +18,14 @@ use Rattle.alt_base.specs.Answers.{refused}
 use Rattle.svcb_text.specs.KeyNames.{is_key_byte, key_name}
 use Rattle.svcb_text.specs.ParamOrder.{IsNew, all_placed, in_order, keys_of}
 use Rattle.svcb_text.specs.TextGrammar.{front_text, spaced_texts, HasForm, IsAllowed, SpellsRecordText}
-use Rattle.svcb_text.specs.TextReading.{ParamsAnswer, RecordAnswer, first_param, params_behind, read_params, finish, with_params, item_of, by_target, priority_of, by_priority, read_record_text}
+use Rattle.svcb_text.specs.TextReading.{RecordAnswer, first_param, params_behind, finish, with_params, item_of, by_target, priority_of, by_priority, read_record_text}
 use Rattle.svcb_text.specs.TextRefusals.{GoesOn, RecordTextRefusedAt, IsBadPriority, IsBadTarget, OneRecordText}
 use Rattle.svcb_text.proofs.ParamKeys.{distinct_fresh, new_among, none_among}
 use Rattle.svcb_text.proofs.Items.{item_is, ends_with_blanks, blanks_end}
-use Rattle.svcb_text.proofs.Front.{Fronted, priority_says, sized_reads, priority_passed, fronted_reads}
+use Rattle.svcb_text.proofs.Front.{priority_says, sized_reads, priority_passed, fronted_reads}
 use Rattle.svcb_text.proofs.FirstParam.{ParamStops}
 use Rattle.svcb_text.proofs.FirstRead.{stop_reads}
-use Rattle.svcb_text.proofs.ParamPasses.{Passes, passes, ends_before, end_on, stop_on}
+use Rattle.svcb_text.proofs.ParamPasses.{passes, ends_before, end_on, stop_on}
 use Rattle.svcb_text.proofs.RecordSays.{Says, record_says}
 
 -- the parameters of a text of a record's form

@@ -1,5 +1,5 @@
 -- What a text spells is a record.
-use Rattle.std.proofs.Common.{◌≡◌, ℕ, ◌+◌, ◌≤◌, ◌<◌, List, [], ◌∷◌, ◌++◌, length, Result, Ok, Err, IfOk, refl, ap, sym, ◌∙◌, subst, arith}
+use Rattle.std.proofs.Common.{◌≡◌, ℕ, ◌≤◌, List, [], ◌∷◌, ◌++◌, length, Result, Ok, Err, IfOk, refl, sym, subst, arith}
 use Rattle.std.specs.Int.{bytes_high_first}
 use Rattle.std.proofs.lemmas.List.{length-append}
 use Rattle.alt_base.specs.declared.refusal.Refused.{Refused}
@@ -7,7 +7,6 @@ use Rattle.dns_names.specs.Names.{AreBytes, wire_form}
 use Rattle.dns_names.proofs.TextNames.{spelled_name}
 use Rattle.svcb_wire.specs.declared.param.Param.{Param}
 use Rattle.svcb_wire.specs.declared.svcb.Svcb.{Svcb}
-use Rattle.svcb_wire.specs.Forms.{AreParams}
 use Rattle.svcb_wire.specs.Octets.{params_octets}
 use Rattle.svcb_wire.specs.Records.{IsRecord}
 use Rattle.dns_names.proofs.Bytes.{bytes_back}

@@ -1,5 +1,5 @@
 -- What is written for protocol ids spells them.
-use Rattle.std.proofs.Common.{◌≡◌, ◌≢◌, ◌⊎◌, ℕ, ◌≤◌, Bool, true, false, cond, ◌||◌, nat_eq, List, [], ◌∷◌, ◌++◌, length, map, refl, ap, sym, ◌∙◌, arith, inl, inr}
+use Rattle.std.proofs.Common.{◌≡◌, ◌≢◌, ◌⊎◌, ℕ, ◌≤◌, Bool, true, false, cond, nat_eq, List, [], ◌∷◌, ◌++◌, length, map, refl, ap, sym, ◌∙◌, arith, inl, inr}
 use Rattle.std.specs.List.{join_with_byte}
 use Rattle.dns_names.specs.Names.{AreBytes}
 use Rattle.alt_base.proofs.Numbers.{true_eq, false_eq}

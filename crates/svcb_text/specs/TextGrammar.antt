@@ -1,5 +1,5 @@
 -- A record in text (RFC 9460 2.1): a priority, a target and parameters, with blanks between.
-use Rattle.std.specs.Prelude.{◌≡◌, ◌≢◌, ◌≤◌, ◌<◌, ◌⊎◌, ℕ, true, List, [], ◌∷◌, ◌++◌, length, map}
+use Rattle.std.specs.Prelude.{◌≡◌, ◌≢◌, ◌≤◌, ◌<◌, ◌⊎◌, ℕ, true, List, [], ◌∷◌, ◌++◌, length}
 use Rattle.std.specs.Str.Parse.{IsNumeral, digits_value}
 use Rattle.field_text.specs.BlanksGrammar.{is_blank}
 use Rattle.field_text.specs.Runs.{AllIn}
@@ -7,7 +7,6 @@ use Rattle.dns_names.specs.TextParts.{Part}
 use Rattle.dns_names.specs.TextGrammar.{SpellsText}
 use Rattle.svcb_wire.specs.declared.param.Param.{Param}
 use Rattle.svcb_wire.specs.declared.svcb.Svcb.{Svcb}
-use Rattle.svcb_wire.specs.Octets.{key_of}
 use Rattle.svcb_wire.specs.Records.{record_octets}
 use Rattle.svcb_wire.specs.Usable.{is_consistent}
 use Rattle.svcb_text.specs.declared.token.Style.{Style}

@@ -1,6 +1,5 @@
 -- Reading a record's text, item by item.
-use Rattle.std.specs.Prelude.{ℕ, zero, suc, ◌+◌, Bool, ◌||◌, not, nat_eq, nat_le, nat_lt, if◌then◌else◌, List, [], ◌∷◌, ◌++◌, length, drop, Option, Some, None, Result, Ok, Err}
-use Rattle.std.specs.List.{list_any}
+use Rattle.std.specs.Prelude.{ℕ, zero, suc, ◌+◌, Bool, ◌||◌, not, nat_eq, nat_le, nat_lt, if◌then◌else◌, List, [], ◌∷◌, length, drop, Option, Some, None, Result, Ok, Err}
 use Rattle.field_text.specs.BlanksGrammar.{is_blank}
 use Rattle.field_text.specs.BlanksReading.{read_blanks, after_blanks}
 use Rattle.field_text.specs.DeltaReading.{read_delta_seconds}
@@ -9,12 +8,10 @@ use Rattle.dns_names.specs.TextReading.{TextAnswer, read_text}
 use Rattle.alt_base.specs.declared.refusal.At.{At}
 use Rattle.svcb_wire.specs.declared.param.Param.{Param}
 use Rattle.svcb_wire.specs.declared.svcb.Svcb.{Svcb}
-use Rattle.svcb_wire.specs.Octets.{key_of}
 use Rattle.svcb_wire.specs.Records.{record_octets}
 use Rattle.svcb_wire.specs.Usable.{is_consistent, has_key}
 use Rattle.svcb_text.specs.declared.refusal.RecordTextRefusal.{RecordTextRefusal}
 use Rattle.svcb_text.specs.declared.refusal.RecordTextRefusal.TheVariants.{BadPriority, BadTarget, BadKey, RepeatedKey, BadString, BadValue, Inconsistent, TooLong}
-use Rattle.svcb_text.specs.declared.unescaped.Unescaped.{Unescaped}
 use Rattle.alt_base.specs.Answers.{refused}
 use Rattle.svcb_text.specs.KeyNames.{is_key_byte, key_named}
 use Rattle.svcb_text.specs.StringReading.{StringAnswer, read_string, no_bytes}

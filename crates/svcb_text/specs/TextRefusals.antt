@@ -1,6 +1,6 @@
 -- The refusals of a record's text, with their places. The order is from left to right, and for one parameter that of the
 -- table; a text that is too long comes first, and what concerns the whole record comes last.
-use Rattle.std.specs.Prelude.{◌≡◌, ◌≢◌, ◌≤◌, ◌<◌, ◌⊎◌, ℕ, ◌+◌, true, false, not, List, [], ◌∷◌, ◌++◌, length}
+use Rattle.std.specs.Prelude.{◌≡◌, ◌≢◌, ◌≤◌, ◌<◌, ◌⊎◌, ℕ, ◌+◌, true, not, List, [], ◌∷◌, ◌++◌, length}
 use Rattle.field_text.specs.BlanksGrammar.{is_blank}
 use Rattle.field_text.specs.Runs.{AllIn, BeginsIn}
 use Rattle.field_text.specs.OneReading.{OneReading}
@@ -9,7 +9,6 @@ use Rattle.dns_names.specs.TextGrammar.{TextRefusedAt}
 use Rattle.svcb_wire.specs.declared.param.Param.{Param}
 use Rattle.svcb_wire.specs.declared.svcb.Svcb.{Svcb}
 use Rattle.svcb_wire.specs.Records.{record_octets}
-use Rattle.svcb_wire.specs.Usable.{is_consistent}
 use Rattle.svcb_text.specs.declared.refusal.RecordTextRefusal.{RecordTextRefusal}
 use Rattle.svcb_text.specs.declared.refusal.RecordTextRefusal.TheVariants.{BadPriority, BadTarget, BadKey, RepeatedKey, BadString, BadValue, Inconsistent, TooLong}
 use Rattle.svcb_text.specs.KeyNames.{key_name}

@@ -1,6 +1,5 @@
-use Rattle.std.proofs.Common.{◌≡◌, ◌≤◌, ◌<◌, ◌+◌, ◌∷◌, ap, sym, ◌∙◌, length, arith, subst}
-use Rattle.router_core.specs.OpenConnections.{most_sends}
-use Rattle.router_core.specs.StepStates.{settle_over, settled_by, settled}
+use Rattle.std.proofs.Common.{ap, sym, ◌∙◌, length, arith}
+use Rattle.router_core.specs.StepStates.{settle_over}
 use Rattle.router_core.proofs.Bounds.{settled_opened, settled_sends}
 use Rattle.router_core.proofs.settling.settle.Goals as goal
 

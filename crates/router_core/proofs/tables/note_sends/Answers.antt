@@ -1,4 +1,4 @@
-use Rattle.std.proofs.Common.{◌≤◌, ◌≡◌, ◌<◌, ap, ◌∙◌, arith, get_or, List}
+use Rattle.std.proofs.Common.{◌≤◌, ◌≡◌, ap, ◌∙◌, arith, get_or, List}
 use Rattle.router_core.specs.declared.open_connection.OpenConnection.{OpenConnection}
 use Rattle.router_core.specs.OpenConnections.{sent_on, most_sends}
 use Rattle.router_core.proofs.Loops.{set_mapped, at_place, sends_at}

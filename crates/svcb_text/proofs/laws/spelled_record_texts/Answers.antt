@@ -1,5 +1,4 @@
 use Rattle.svcb_text.proofs.SpelledRecords.{spelled_record}
-use Rattle.svcb_text.proofs.KeyedMap.{has_found}
 use Rattle.svcb_text.proofs.laws.spelled_record_texts.Goals as goal
 
 pub returns : goal.returns

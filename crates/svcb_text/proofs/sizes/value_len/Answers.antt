@@ -1,5 +1,4 @@
 use Rattle.std.proofs.Common.{◌≡◌, ℕ, ◌*◌, List, [], ◌∷◌, length, refl, arith}
-use Rattle.std.proofs.lemmas.List.{length-append}
 use Rattle.svcb_wire.specs.Octets.{keys_octets}
 use Rattle.svcb_text.proofs.sizes.value_len.Goals as goal
 

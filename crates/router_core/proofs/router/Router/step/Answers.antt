@@ -1,8 +1,5 @@
-use Rattle.std.proofs.Common.{◌≡◌, refl, ap, sym, ◌∙◌}
-use Rattle.route_events.specs.Step.{step}
+use Rattle.std.proofs.Common.{refl, sym, ◌∙◌}
 use Rattle.route_events.proofs.Runs.{all_wait}
-use Rattle.router_core.specs.Reasons.{reason_of}
-use Rattle.router_core.specs.StandsFor.{StandsFor}
 use Rattle.router_core.proofs.Steps.{reason_is, step_stands, step_runs, sends_only, refuses_only, ok_map, ok_always}
 use Rattle.router_core.proofs.router.Router.step.Goals as goal
 

@@ -1,8 +1,7 @@
-use Rattle.std.proofs.Common.{◌≡◌, ◌≤◌, ◌<◌, ◌+◌, ◌*◌, [], length, arith, ap, ◌∙◌}
-use Rattle.router_core.specs.OpenConnections.{most_sends}
-use Rattle.router_core.specs.StepStates.{with_effect, settle_over}
+use Rattle.std.proofs.Common.{[], arith}
+use Rattle.router_core.specs.StepStates.{with_effect}
 use Rattle.router_core.specs.Becomes.{begun}
-use Rattle.router_core.proofs.Bounds.{effect_small, over_opened, over_sends, not_spent, IsSmall}
+use Rattle.router_core.proofs.Bounds.{effect_small, over_opened, over_sends, not_spent}
 use Rattle.router_core.proofs.router.Router.take.Goals as goal
 
 pub settle-requires-clause-sends : goal.settle-requires-clause-sends
