@@ -1,5 +1,5 @@
 -- Valid input over devices that don't fail is done, or memory ran out.
-use Rattle.std.proofs.Common.{◌≡◌, ℕ, Bool, true, false, List, [], ◌∷◌, ◌++◌, Option, Some, None, refl, ap, sym, ◌∙◌, subst, inl, inr, ◌⊎◌, append-nil}
+use Rattle.std.proofs.Common.{◌≡◌, ℕ, Bool, true, false, List, [], ◌++◌, Option, Some, None, refl, ap, sym, ◌∙◌, subst, inl, inr, ◌⊎◌, append-nil}
 use Rattle.std.specs.Bool.{OnTrue}
 use Rattle.alt_base.specs.Devices.{with_front, IsAtEnd}
 use Rattle.alt_base.specs.Faults.{Rose}

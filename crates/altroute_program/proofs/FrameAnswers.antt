@@ -1,5 +1,5 @@
 -- What further octets, or the end, make of the text.
-use Rattle.std.proofs.Common.{◌≡◌, ℕ, ◌+◌, ◌-◌, ◌<◌, ◌≤◌, Bool, true, false, List, [], ◌∷◌, ◌++◌, length, take, drop, Option, Some, None, Result, Ok, Err, refl, ap, sym, ◌∙◌, subst, arith, append_assoc}
+use Rattle.std.proofs.Common.{◌≡◌, ℕ, ◌+◌, ◌<◌, ◌≤◌, true, false, List, ◌++◌, length, take, drop, Option, Some, None, Result, Ok, Err, refl, ap, sym, ◌∙◌, subst, arith, append_assoc}
 use Rattle.std.proofs.lemmas.List.{length-append, length-take-le, length-drop, take-append-drop}
 use Rattle.alt_base.specs.Devices.{Grew}
 use Rattle.alt_base.specs.declared.refusal.NoMemory.{NoMemory as OutOfMemory}
@@ -14,7 +14,7 @@ use Rattle.altroute_program.specs.declared.status.Status.{Status}
 use Rattle.altroute_program.specs.declared.status.Status.TheVariants.{Done, Refused, Usage, ReadFault, WriteFault, NoMemory, TooLong}
 use Rattle.altroute_program.specs.Given.{refused_at}
 use Rattle.altroute_program.specs.FrameLines.{frame_lines}
-use Rattle.altroute_program.specs.FrameOutcome.{FrameStop, AtTooLarge, AtUnfinished, AtLongInput, FrameOutcome, frames_text, place_behind, limited_outcome, frame_outcome}
+use Rattle.altroute_program.specs.FrameOutcome.{FrameStop, AtLongInput, FrameOutcome, frames_text, place_behind, limited_outcome, frame_outcome}
 use Rattle.altroute_program.specs.FrameSteps.{Stands, frames_size, TextEnds, OctetsEnd, EndEnds}
 use Rattle.altroute_program.proofs.FrameSplits.{brought_text, brought_place}
 use Rattle.altroute_program.proofs.FrameOutcomes.{within, going, too_large, ended_whole, ended_within, past_text, past_stop, past_going, outcome_more}

@@ -1,29 +1,28 @@
 -- Told input that is whole frames is done where neither device fails, or memory isn't found.
-use Rattle.std.proofs.Common.{◌≡◌, ◌⊎◌, ℕ, ◌+◌, ◌<◌, ◌≤◌, zero, suc, Bool, true, false, nat_lt, List, [], ◌∷◌, ◌++◌, length, take, Option, Some, None, refl, ap, sym, ◌∙◌, subst, arith, append-nil, inl, inr}
+use Rattle.std.proofs.Common.{◌≡◌, ℕ, ◌+◌, ◌<◌, zero, suc, Bool, true, false, nat_lt, List, [], ◌∷◌, ◌++◌, length, take, Option, Some, None, refl, ap, sym, ◌∙◌, subst, arith, append-nil, inl, inr}
 use Rattle.std.proofs.lemmas.List.{length-append}
 use Rattle.alt_base.specs.Devices.{IsAtEnd, with_front}
-use Rattle.alt_base.specs.Faults.{Rose}
 use Rattle.h2_framing.specs.Streams.{too_large_of}
 use Rattle.h2_framing.proofs.Pieces.{brings_nothing}
 use Rattle.altroute_program.specs.declared.status.Status.{Status}
 use Rattle.altroute_program.specs.declared.status.Status.TheVariants.{Done, Refused, Usage, ReadFault, WriteFault, NoMemory, TooLong}
 use Rattle.altroute_program.specs.Ends.{Seen}
-use Rattle.altroute_program.specs.FrameOutcome.{FrameStop, AtTooLarge, AtUnfinished, AtLongInput, FrameOutcome, limited_outcome, frame_outcome}
-use Rattle.altroute_program.specs.FrameEnds.{AreStopped, FrameEnds, AreComplete}
+use Rattle.altroute_program.specs.FrameOutcome.{AtTooLarge, AtUnfinished, AtLongInput, limited_outcome, frame_outcome}
+use Rattle.altroute_program.specs.FrameEnds.{FrameEnds, AreComplete}
 use Rattle.altroute_program.proofs.FrameAnswers.{never_long}
 
 some_none : {X : Type 0} (x : X) (o : Option X) → o ≡ Some x → o ≡ None → ⊥
 some_none x o some none = let e : Some x ≡ None = sym some ∙ none in cc
 
-take_front : (n : ℕ) (xs ys : List ℕ) → (t : List ℕ) × (take n (xs ++ ys) ≡ take n xs ++ t)
+pub take_front : (n : ℕ) (xs ys : List ℕ) → (t : List ℕ) × (take n (xs ++ ys) ≡ take n xs ++ t)
 take_front zero xs ys = ([], refl)
 take_front (suc n) [] ys = (take (suc n) ys, refl)
 take_front (suc n) (x ∷ xs) ys = let r = take_front n xs ys in (r.0, ap (λ zs. x ∷ zs) r.1)
 
-above_of : (n : ℕ) → nat_lt 67108864 n ≡ true → 67108864 < n
+pub above_of : (n : ℕ) → nat_lt 67108864 n ≡ true → 67108864 < n
 above_of n h = grind arith
 
-of_above : (n : ℕ) → 67108864 < n → nat_lt 67108864 n ≡ true
+pub of_above : (n : ℕ) → 67108864 < n → nat_lt 67108864 n ≡ true
 of_above n h = grind arith
 
 -- a length above 16,384 stops it, whatever octets follow

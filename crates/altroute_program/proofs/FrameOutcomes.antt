@@ -1,10 +1,9 @@
 -- What the outcome for the octets taken is, from how far the run has come.
-use Rattle.std.proofs.Common.{◌≡◌, ℕ, ◌+◌, ◌-◌, ◌<◌, ◌≤◌, Bool, true, false, cond, nat_lt, List, [], ◌∷◌, ◌++◌, length, take, Option, Some, None, refl, ap, sym, ◌∙◌, subst, arith, append-nil, append_assoc}
-use Rattle.std.proofs.lemmas.List.{length-append, take_all, take_at, take-append-drop}
-use Rattle.h2_framing.specs.Streams.{frames_of, rest_of, too_large_of}
-use Rattle.h2_framing.proofs.Pieces.{brings_nothing}
+use Rattle.std.proofs.Common.{◌≡◌, ℕ, ◌<◌, ◌≤◌, Bool, true, false, cond, nat_lt, List, [], ◌∷◌, ◌++◌, length, Option, Some, None, refl, ap, sym, ◌∙◌, arith, append_assoc}
+use Rattle.std.proofs.lemmas.List.{length-append, take_all, take_at}
+use Rattle.h2_framing.specs.Streams.{rest_of, too_large_of}
 use Rattle.altroute_program.specs.Given.{refused_at}
-use Rattle.altroute_program.specs.FrameOutcome.{FrameStop, AtTooLarge, AtUnfinished, AtLongInput, FrameOutcome, frames_text, place_behind, is_some_octet, goes_on, stops, end_outcome, limited_outcome, frame_outcome}
+use Rattle.altroute_program.specs.FrameOutcome.{AtTooLarge, AtUnfinished, AtLongInput, FrameOutcome, frames_text, place_behind, is_some_octet, goes_on, stops, end_outcome, limited_outcome, frame_outcome}
 use Rattle.altroute_program.proofs.FrameSplits.{text_more}
 
 not_above : (n : ℕ) → n ≤ 67108864 → nat_lt 67108864 n ≡ false

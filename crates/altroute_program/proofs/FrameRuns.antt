@@ -1,15 +1,15 @@
 -- What a turn makes of a run of `show frames`, by the status.
-use Rattle.std.proofs.Common.{◌≡◌, ℕ, ◌+◌, ◌≤◌, ◌<◌, Bool, true, false, List, [], ◌∷◌, ◌++◌, length, take, Option, Some, None, Result, Ok, Err, refl, ap, sym, ◌∙◌, subst, arith, append_assoc, append-nil, inl, inr}
+use Rattle.std.proofs.Common.{◌≡◌, ℕ, ◌+◌, ◌≤◌, Bool, true, false, List, [], ◌++◌, length, take, Option, Ok, Err, refl, ap, sym, ◌∙◌, subst, arith, append-nil, inl, inr}
 use Rattle.alt_base.specs.Devices.{Grew, Took, IsAtEnd, with_front, Grew-more, Took-more, Took-nil}
 use Rattle.alt_base.specs.Faults.{Rose}
-use Rattle.h2_framing.specs.Streams.{split_of, frames_of}
+use Rattle.h2_framing.specs.Streams.{split_of}
 use Rattle.altroute_program.specs.declared.frames_so_far.FramesSoFar.{FramesSoFar}
 use Rattle.altroute_program.specs.declared.status.Status.{Status}
 use Rattle.altroute_program.specs.declared.status.Status.TheVariants.{Done, Refused, Usage, ReadFault, WriteFault, NoMemory, TooLong}
 use Rattle.altroute_program.specs.Reached.{SinkCause}
 use Rattle.altroute_program.specs.Ends.{Seen, AnsweredEnd, NoFault, Moves}
 use Rattle.altroute_program.specs.FrameOutcome.{FrameOutcome, frames_text, frame_outcome}
-use Rattle.altroute_program.specs.FrameEnds.{AreDone, AreStopped, AreFaulted, ArePart, FrameEnds}
+use Rattle.altroute_program.specs.FrameEnds.{FrameEnds}
 use Rattle.altroute_program.specs.FrameSteps.{Stands, OctetsEnd, EndEnds, FramesRun, HaveRun}
 use Rattle.altroute_program.proofs.Lines.{grew_nothing, take_longer}
 use Rattle.altroute_program.proofs.FrameOutcomes.{going}

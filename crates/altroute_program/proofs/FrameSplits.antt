@@ -1,10 +1,10 @@
 -- The whole frames of a stream: their sizes, their lines, and what further octets add.
-use Rattle.std.proofs.Common.{◌≡◌, ℕ, ◌+◌, ◌-◌, ◌<◌, ◌≤◌, Bool, true, false, cond, List, [], ◌∷◌, ◌++◌, length, Option, Some, None, refl, ap, sym, ◌∙◌, subst, arith, append_assoc}
+use Rattle.std.proofs.Common.{◌≡◌, ℕ, ◌+◌, ◌≤◌, Bool, true, false, cond, List, [], ◌∷◌, ◌++◌, length, Option, refl, ap, sym, ◌∙◌, subst, arith, append_assoc}
 use Rattle.std.proofs.lemmas.List.{length-append}
 use Rattle.h2_framing.specs.declared.head.Head.{Head}
 use Rattle.h2_framing.specs.declared.frame.Frame.{Frame}
 use Rattle.h2_framing.specs.declared.frame.Frame.TheVariants.{Kept, Passed}
-use Rattle.h2_framing.specs.Frames.{head_of, frame_of, is_kept, IsFrame, AreFrames}
+use Rattle.h2_framing.specs.Frames.{head_of, is_kept, IsFrame, AreFrames}
 use Rattle.h2_framing.specs.Streams.{frames_of, rest_of, too_large_of}
 use Rattle.h2_framing.specs.Reading.{Brings}
 use Rattle.h2_framing.proofs.Splitting.{split_some, goes_on}

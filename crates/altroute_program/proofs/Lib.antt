@@ -12,3 +12,4 @@ mod FrameOutcomes
 mod FrameAnswers
 mod FrameRuns
 mod FrameComplete
+mod FrameStays

@@ -1,8 +1,8 @@
 -- What a line, a byte and a piece make of the bytes taken so far.
-use Rattle.std.proofs.Common.{◌≡◌, ℕ, ◌+◌, ◌-◌, ◌≤◌, ◌<◌, zero, suc, Bool, true, false, nat_eq, List, [], ◌∷◌, ◌++◌, length, take, Option, Some, None, Result, Ok, Err, refl, ap, sym, ◌∙◌, subst, arith, append_assoc, append-nil, inl, inr}
+use Rattle.std.proofs.Common.{◌≡◌, ℕ, ◌+◌, ◌≤◌, ◌<◌, zero, suc, true, false, nat_eq, List, [], ◌∷◌, ◌++◌, length, take, Option, Result, Ok, Err, refl, ap, sym, ◌∙◌, subst, arith, append_assoc, append-nil, inl, inr}
 use Rattle.std.specs.Prelude.{min}
-use Rattle.std.proofs.lemmas.List.{length_push, length-append}
-use Rattle.alt_base.specs.Devices.{Grew, Grew-more, with_end, with_end-nil}
+use Rattle.std.proofs.lemmas.List.{length_push}
+use Rattle.alt_base.specs.Devices.{Grew, Grew-more, with_end-nil}
 use Rattle.route_events.specs.Journal.{Journal}
 use Rattle.router_core.specs.StandsFor.{StandsFor}
 use Rattle.router_core.specs.declared.router.Router.{Router}
@@ -10,8 +10,8 @@ use Rattle.event_lines.specs.LineReading.{line_reading}
 use Rattle.altroute_program.specs.declared.state.Replay.{Replay}
 use Rattle.altroute_program.specs.declared.status.Status.{Status}
 use Rattle.altroute_program.specs.declared.status.Status.TheVariants.{Done, Refused, Usage, ReadFault, WriteFault, NoMemory, TooLong}
-use Rattle.altroute_program.specs.Lines.{Cut, cut_lines}
-use Rattle.altroute_program.specs.Outcome.{Progress, Going, Stopped, Stop, AtRefused, AtLongLine, AtLongInput, after_reading, act_all, start, outcome, text_of, stop_of}
+use Rattle.altroute_program.specs.Lines.{Cut}
+use Rattle.altroute_program.specs.Outcome.{Going, Stopped, AtRefused, AtLongLine, AtLongInput, after_reading, act_all, start, outcome, text_of, stop_of}
 use Rattle.altroute_program.specs.Reached.{Reached, LineEnds, BytesEnd, FinishEnds, IsTooLong, status_after}
 use Rattle.altroute_program.proofs.Cutting.{cut-push}
 use Rattle.altroute_program.proofs.Outcomes.{newline_progress, newline_outcome, other_cut, going_is, ended_is, ended_more, reading_grows, full_outcome, long_outcome}

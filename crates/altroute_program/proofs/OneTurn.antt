@@ -1,15 +1,14 @@
 -- What a turn makes of a run, by the status.
-use Rattle.std.proofs.Common.{◌≡◌, ℕ, ◌+◌, ◌≤◌, ◌<◌, Bool, true, false, ◌||◌, ◌&&◌, nat_eq, nat_lt, List, [], ◌∷◌, ◌++◌, length, take, Option, Some, None, Result, Ok, Err, refl, ap, sym, ◌∙◌, subst, arith, append_assoc, append-nil, inl, inr}
+use Rattle.std.proofs.Common.{◌≡◌, ℕ, ◌+◌, ◌≤◌, ◌<◌, Bool, true, false, ◌||◌, ◌&&◌, nat_eq, nat_lt, List, [], ◌++◌, length, take, Option, Ok, Err, refl, ap, sym, ◌∙◌, subst, arith, append-nil, inl, inr}
 use Rattle.alt_base.specs.Devices.{Grew, Took, IsAtEnd, with_front, answers_end, Grew-more, Took-more, Took-nil}
 use Rattle.alt_base.specs.Faults.{Rose}
 use Rattle.route_events.specs.Journal.{Journal}
-use Rattle.router_core.specs.StandsFor.{StandsFor}
 use Rattle.altroute_program.specs.declared.state.Replay.{Replay}
 use Rattle.altroute_program.specs.declared.status.Status.{Status}
 use Rattle.altroute_program.specs.declared.status.Status.TheVariants.{Done, Refused, Usage, ReadFault, WriteFault, NoMemory, TooLong}
-use Rattle.altroute_program.specs.Outcome.{Progress, Stopped, AtRefused, AtLongLine, AtLongInput, outcome, text_of, stop_of}
+use Rattle.altroute_program.specs.Outcome.{outcome, text_of, stop_of}
 use Rattle.altroute_program.specs.Reached.{Reached, BytesEnd, FinishEnds, SinkCause, Runs, HasRun}
-use Rattle.altroute_program.specs.Ends.{Seen, AnsweredEnd, NoFault, Moves, IsDone, IsStopped, IsReadFault, IsPart, ReplayEnds}
+use Rattle.altroute_program.specs.Ends.{Seen, AnsweredEnd, NoFault, ReplayEnds}
 use Rattle.altroute_program.proofs.Outcomes.{going_is}
 use Rattle.altroute_program.proofs.Lines.{grew_nothing, take_longer}
 

@@ -1,5 +1,5 @@
 -- What the outcome for the bytes taken is, from how far the run has come.
-use Rattle.std.proofs.Common.{◌≡◌, ℕ, ◌+◌, ◌≤◌, ◌<◌, Bool, true, false, cond, ◌&&◌, nat_eq, nat_lt, List, [], ◌∷◌, ◌++◌, length, take, Option, Some, None, Result, Ok, Err, refl, ap, sym, ◌∙◌, subst, arith, append_assoc, append-nil}
+use Rattle.std.proofs.Common.{◌≡◌, ℕ, ◌+◌, ◌≤◌, ◌<◌, Bool, true, false, cond, ◌&&◌, nat_eq, nat_lt, List, [], ◌∷◌, ◌++◌, length, Option, Some, None, Result, Ok, Err, refl, ap, sym, ◌∙◌, subst, arith, append_assoc, append-nil}
 use Rattle.std.specs.Prelude.{nat_le}
 use Rattle.std.proofs.lemmas.List.{length_push, take_all, take_at}
 use Rattle.alt_base.specs.declared.refusal.At.{At}
@@ -12,9 +12,9 @@ use Rattle.event_lines.specs.declared.event.Event.TheVariants.{Client, Skip}
 use Rattle.event_lines.specs.declared.refusal.LineRefusal.{LineRefusal}
 use Rattle.event_lines.specs.LineReading.{line_reading}
 use Rattle.altroute_program.specs.declared.state.Replay.{Replay}
-use Rattle.altroute_program.specs.Lines.{Cut, cut_on, cut_from, cut_lines, lines_of, is_empty_bytes}
+use Rattle.altroute_program.specs.Lines.{Cut, cut_lines, lines_of, is_empty_bytes}
 use Rattle.altroute_program.specs.Texts.{actions_text, refused_line, step_refusal_text, line_refusal_text}
-use Rattle.altroute_program.specs.Outcome.{Progress, Going, Stopped, Stop, AtRefused, AtLongLine, AtLongInput, after_step, after_event, after_reading, act, act_all, start, limited, outcome, text_of, stop_of}
+use Rattle.altroute_program.specs.Outcome.{Progress, Going, Stopped, AtLongLine, AtLongInput, after_step, after_event, after_reading, act, act_all, start, limited, outcome, text_of}
 use Rattle.altroute_program.specs.Reached.{Reached}
 use Rattle.altroute_program.proofs.Cutting.{cut-push, act_all-append}
 

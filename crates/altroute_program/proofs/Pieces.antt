@@ -1,5 +1,5 @@
 -- The bytes of a piece, one at a time.
-use Rattle.std.proofs.Common.{◌≡◌, ℕ, ◌+◌, ◌<◌, ◌≤◌, List, [], ◌∷◌, ◌++◌, length, take, drop, get_or, Option, Result, Ok, Err, refl, ap, sym, ◌∙◌, subst, arith, append_assoc, append-nil, suc, zero, add-one}
+use Rattle.std.proofs.Common.{◌≡◌, ℕ, ◌+◌, ◌<◌, List, [], ◌∷◌, ◌++◌, length, take, drop, get_or, Option, Ok, Err, refl, ap, sym, ◌∙◌, subst, arith, append_assoc, append-nil, suc, zero, add-one}
 use Rattle.std.proofs.lemmas.List.{take-append-drop}
 use Rattle.alt_base.specs.Devices.{Grew, Grew-more}
 use Rattle.route_events.specs.Journal.{Journal}

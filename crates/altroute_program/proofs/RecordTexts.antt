@@ -1,16 +1,16 @@
 -- The JSON line of a record: its parameters so far, the target's text, and no float.
-use Rattle.std.proofs.Common.{◌≡◌, ℕ, zero, suc, ◌+◌, ◌*◌, ◌/◌, ◌%◌, ◌<◌, ◌≤◌, Bool, true, false, List, [], ◌∷◌, ◌++◌, length, map, take, get_or, refl, ap, sym, ◌∙◌, arith, codes}
+use Rattle.std.proofs.Common.{◌≡◌, ℕ, ◌+◌, ◌/◌, ◌%◌, ◌<◌, Bool, true, false, List, [], ◌∷◌, ◌++◌, length, map, take, get_or, refl, ap, sym, ◌∙◌, arith}
 use Rattle.std.proofs.lemmas.List.{map_push, take_more}
 use Rattle.std.specs.Char.{is_ascii_graphic}
 use Rattle.std.specs.Str.{IsAscii, IsUtf8}
 use Rattle.std.proofs.lemmas.Str.{IsAscii-append, IsUtf8-from_ascii}
 use Rattle.std.proofs.lemmas.Str.Ascii.{IsAscii-cons, IsAscii-nil}
 use Rattle.serde_json.specs.Data.{Data}
-use Rattle.serde_json.specs.View.{view, items_of}
+use Rattle.serde_json.specs.View.{view}
 use Rattle.serde_json.specs.Written.{has_float, items_have_float, compact_text}
 use Rattle.serde_json.specs.declared.value.Value.{Value}
-use Rattle.dns_names.specs.Names.{IsNameByte, AreNameBytes, IsLabel, AreLabels, IsName}
-use Rattle.dns_names.specs.TextParts.{Part, Raw, Quoted, Decimal, part_text, parts_text, dotted, is_special, part_of, text_form}
+use Rattle.dns_names.specs.Names.{AreNameBytes, AreLabels, IsName}
+use Rattle.dns_names.specs.TextParts.{Decimal, part_text, parts_text, dotted, is_special, part_of, text_form}
 use Rattle.svcb_wire.specs.declared.param.Param.{Param}
 use Rattle.svcb_wire.specs.declared.svcb.Svcb.{Svcb}
 use Rattle.altroute_program.specs.RecordJson.{param_data, params_data, record_data, record_line}

@@ -1,5 +1,5 @@
 -- What reading a whole input, and writing what is given for it, say by the status.
-use Rattle.std.proofs.Common.{◌≡◌, ℕ, ◌+◌, ◌-◌, ◌≤◌, ◌<◌, Bool, true, false, List, [], ◌++◌, length, take, Option, Some, None, Result, Ok, Err, refl, ap, sym, ◌∙◌, subst, arith, append-nil, inl, inr, ◌⊎◌}
+use Rattle.std.proofs.Common.{◌≡◌, ℕ, ◌+◌, ◌-◌, ◌≤◌, ◌<◌, true, List, [], ◌++◌, length, take, Option, Some, None, Err, refl, ap, sym, ◌∙◌, subst, arith, append-nil, inl, inr}
 use Rattle.std.proofs.lemmas.List.{length-append, length-take-le}
 use Rattle.alt_base.specs.Devices.{Grew, Took, IsAtEnd, with_front, Took-more, Took-nil, with_end-nil}
 use Rattle.alt_base.specs.Faults.{Rose}
@@ -7,7 +7,7 @@ use Rattle.altroute_program.specs.declared.status.Status.{Status}
 use Rattle.altroute_program.specs.declared.status.Status.TheVariants.{Done, Refused, Usage, ReadFault, WriteFault, NoMemory, TooLong}
 use Rattle.altroute_program.specs.declared.given.Given.{Given}
 use Rattle.altroute_program.specs.declared.given.Given.TheVariants as given
-use Rattle.altroute_program.specs.Ends.{Seen, AnsweredEnd, NoFault, Moves}
+use Rattle.altroute_program.specs.Ends.{Seen, Moves}
 use Rattle.altroute_program.specs.Given.{given_text}
 use Rattle.altroute_program.specs.WholeInput.{SourceSeen, Taken, TakenAll, TakenToFault, ReadEnds, IsGiven, WholeEnds, GiveEnds, IsWholeComplete}
 

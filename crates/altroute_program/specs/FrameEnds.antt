@@ -1,5 +1,5 @@
 -- What each status of `show frames` says.
-use Rattle.std.specs.Prelude.{◌≡◌, ◌⊎◌, ℕ, Bool, true, false, List, take, Option, Some, None}
+use Rattle.std.specs.Prelude.{◌≡◌, ◌⊎◌, ℕ, Bool, true, false, List, take, Some, None}
 use Rattle.std.specs.Bool.{OnTrue}
 use Rattle.alt_base.specs.Faults.{Rose}
 use Rattle.altroute_program.specs.declared.status.Status.{Status}

@@ -1,5 +1,5 @@
 -- The line that `show frames` writes for a frame.
-use Rattle.std.specs.Prelude.{ℕ, ◌≤◌, nat_eq, List, [], ◌∷◌, ◌++◌, length, codes, Option, None, Some, Result, Ok, Err, if◌then◌else◌}
+use Rattle.std.specs.Prelude.{ℕ, nat_eq, List, [], ◌∷◌, ◌++◌, codes, Option, None, Some, Result, Ok, Err, if◌then◌else◌}
 use Rattle.std.specs.Fmt.{decimal}
 use Rattle.alt_base.specs.declared.refusal.At.{At}
 use Rattle.origin_values.specs.declared.origin.Origin.{Origin}

@@ -1,5 +1,5 @@
 -- What `replay` writes for the bytes that it took, and where it stops.
-use Rattle.std.specs.Prelude.{◌≡◌, ℕ, ◌+◌, Bool, true, false, ◌&&◌, nat_lt, nat_le, List, [], ◌∷◌, ◌++◌, length, take, Option, Some, None, Result, Ok, Err, if◌then◌else◌}
+use Rattle.std.specs.Prelude.{ℕ, ◌+◌, Bool, ◌&&◌, nat_lt, nat_le, List, [], ◌∷◌, ◌++◌, length, take, Option, Some, None, Result, Ok, Err, if◌then◌else◌}
 use Rattle.alt_base.specs.declared.refusal.At.{At}
 use Rattle.route_events.specs.declared.fact.Fact.{Fact}
 use Rattle.route_events.specs.declared.refusal.StepRefusal.{StepRefusal}
@@ -9,7 +9,7 @@ use Rattle.event_lines.specs.declared.event.Event.{Event}
 use Rattle.event_lines.specs.declared.event.Event.TheVariants.{Client, Skip}
 use Rattle.event_lines.specs.declared.refusal.LineRefusal.{LineRefusal}
 use Rattle.event_lines.specs.LineReading.{line_reading}
-use Rattle.altroute_program.specs.Lines.{Cut, cut_lines, lines_of}
+use Rattle.altroute_program.specs.Lines.{cut_lines, lines_of}
 use Rattle.altroute_program.specs.Texts.{actions_text, refused_line, step_refusal_text, line_refusal_text}
 
 -- why a run stops before its end: a refused line, a line's byte 65,537, the input's byte 67,108,865

@@ -1,5 +1,5 @@
 -- Reading a whole input, and what each status of a command says that does.
-use Rattle.std.specs.Prelude.{◌≡◌, ◌⊎◌, ℕ, ◌≤◌, ◌<◌, Bool, true, List, [], ◌++◌, take, length, Option, Some, None, Result, Ok, Err}
+use Rattle.std.specs.Prelude.{◌≡◌, ◌⊎◌, ℕ, ◌≤◌, ◌<◌, Bool, true, List, [], take, length, Option, Some, None, Result, Ok, Err}
 use Rattle.alt_base.specs.Devices.{Took, Grew, IsAtEnd}
 use Rattle.alt_base.specs.Faults.{Rose}
 use Rattle.altroute_program.specs.declared.status.Status.{Status}

@@ -5,6 +5,7 @@ ghost use Rattle.std.specs.Prelude.{◌≡◌, IfOk, map, string_bytes};
 
 mod answers;
 mod command;
+mod frame_laws;
 mod frame_lines;
 mod frame_steps;
 mod frames_so_far;
@@ -29,6 +30,7 @@ mod write_https;
 
 use alt_base::{ListOf, StdSink, StdSource, Words};
 pub use command::{Command, command_of};
+pub use frame_laws::{frames_are_shown, frames_stop_stays, frames_text_grows};
 pub use given::Given;
 pub use laws::{lines_are_bytes, stop_stays, text_grows};
 pub use record_form::RecordForm;

@@ -16,6 +16,9 @@ use std::alloc::Global;
 /// a request is sent only on an open connection that is authoritative for its origin at that moment by the whole
 /// history, waits only for a pending usable route or a busy authoritative connection, and is refused only where no
 /// authoritative open connection and no usable route exists.
+///
+/// For `show frames` it writes exactly the line of each frame that the octets split into, in whatever pieces they come,
+/// up to a head that is too large or to an end of the input within a frame, which is refused.
 pub fn run<S: Source, K: Sink>(alloc: Global, words: &Words, source: &mut S, sink: &mut K) -> Status
     ensures ends { RunEnds (command_of words.now) result
         (record { left = S.left source.old; source_ended = S.ended source.old; read_faults = S.faults source.old; written = K.written sink.old; write_faults = K.faults sink.old })

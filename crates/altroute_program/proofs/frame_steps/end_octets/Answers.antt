@@ -1,4 +1,4 @@
-use Rattle.std.proofs.Common.{◌≡◌, ◌∙◌, sym, arith}
+use Rattle.std.proofs.Common.{◌∙◌, sym, arith}
 use Rattle.altroute_program.specs.Given.{refused_at}
 use Rattle.altroute_program.proofs.FrameAnswers.{whole_ends, unfinished_ends, unfinished_fails}
 use Rattle.altroute_program.proofs.frame_steps.end_octets.Goals as goal

@@ -1,5 +1,4 @@
 use Rattle.std.proofs.Common.{refl, sym, subst, Ok, Err, ◌+◌}
-use Rattle.route_events.specs.Journal.{Journal}
 use Rattle.router_core.specs.declared.router.Router.{Router}
 use Rattle.router_core.specs.StandsFor.{StandsFor}
 use Rattle.altroute_program.proofs.Lines.{newline_ok, newline_error, seen_line}

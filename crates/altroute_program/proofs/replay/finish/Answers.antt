@@ -1,4 +1,4 @@
-use Rattle.std.proofs.Common.{◌≡◌, ◌<◌, ◌+◌, length, arith, refl, sym, ◌∙◌, subst}
+use Rattle.std.proofs.Common.{◌<◌, ◌+◌, length, arith, sym, ◌∙◌, subst}
 use Rattle.std.proofs.lemmas.List.{nil_from_length}
 use Rattle.router_core.specs.declared.router.Router.{Router}
 use Rattle.router_core.specs.StandsFor.{StandsFor}

@@ -1,4 +1,4 @@
-use Rattle.std.proofs.Common.{◌≡◌, List, ℕ, [], length, take, refl, ap, sym, ◌∙◌, subst, arith}
+use Rattle.std.proofs.Common.{◌≡◌, [], take, refl, subst, arith}
 use Rattle.alt_base.specs.Devices.{Took}
 use Rattle.altroute_program.proofs.OneTurn.{answered}
 use Rattle.altroute_program.proofs.FrameRuns.{end_runs, piece_goes, piece_stops, read_fails}

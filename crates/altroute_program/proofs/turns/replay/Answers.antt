@@ -1,4 +1,4 @@
-use Rattle.std.proofs.Common.{refl, sym, ap, ◌∙◌, arith, [], length}
+use Rattle.std.proofs.Common.{refl, arith}
 use Rattle.altroute_program.proofs.OneTurn.{begins}
 use Rattle.altroute_program.proofs.turns.replay.Goals as goal
 

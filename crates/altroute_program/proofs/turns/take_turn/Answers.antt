@@ -1,4 +1,4 @@
-use Rattle.std.proofs.Common.{◌≡◌, List, ℕ, [], length, take, refl, ap, sym, ◌∙◌, subst, arith}
+use Rattle.std.proofs.Common.{◌≡◌, [], take, refl, subst, arith}
 use Rattle.alt_base.specs.Devices.{Took}
 use Rattle.altroute_program.proofs.OneTurn.{answered, finish_ends, piece_runs, piece_ends, read_fault}
 use Rattle.altroute_program.proofs.turns.take_turn.Goals as goal
