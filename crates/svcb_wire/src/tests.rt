@@ -48,18 +48,6 @@ fn can_use(
     Ok((consistent(&value), compatible(&value, supported)))
 }
 
-fn judges(
-    rt: &impl Abort,
-    alloc: Global,
-    octets: &[u8],
-    supported: &Protos,
-    wanted: (bool, bool),
-) -> Result<(), Fail> {
-    let found = can_use(alloc, octets, supported)?;
-    assert_eq!(rt; found, wanted);
-    Ok(())
-}
-
 #[test]
 fn a_record_with_each_key(rt: HostRuntime) -> Result<(), Fail> {
     let value = parse(rt.alloc(), &EACH_KEY)?;
@@ -128,70 +116,21 @@ fn octets_that_are_refused(rt: HostRuntime) {
 
 #[test]
 fn values_that_are_refused(rt: HostRuntime) {
-    let alloc = rt.alloc();
-    refuses(
-        &rt,
-        alloc,
-        b"\x00\x01\x00\x00\x00\x00\x00",
-        7,
-        WireRefusal::BadValue { key: 0 },
-    );
-    refuses(
-        &rt,
-        alloc,
-        b"\x00\x01\x00\x00\x00\x00\x02\x00\x00",
-        7,
-        WireRefusal::BadValue { key: 0 },
-    );
-    refuses(
-        &rt,
-        alloc,
-        b"\x00\x01\x00\x00\x00\x00\x04\x00\x02\x00\x02",
-        7,
-        WireRefusal::BadValue { key: 0 },
-    );
-    refuses(
-        &rt,
-        alloc,
-        b"\x00\x01\x00\x00\x01\x00\x00",
-        7,
-        WireRefusal::BadValue { key: 1 },
-    );
-    refuses(
-        &rt,
-        alloc,
-        b"\x00\x01\x00\x00\x01\x00\x01\x00",
-        7,
-        WireRefusal::BadValue { key: 1 },
-    );
-    refuses(
-        &rt,
-        alloc,
-        b"\x00\x01\x00\x00\x02\x00\x01\x00",
-        7,
-        WireRefusal::BadValue { key: 2 },
-    );
-    refuses(
-        &rt,
-        alloc,
-        b"\x00\x01\x00\x00\x03\x00\x01\x00",
-        7,
-        WireRefusal::BadValue { key: 3 },
-    );
-    refuses(
-        &rt,
-        alloc,
-        b"\x00\x01\x00\x00\x04\x00\x00",
-        7,
-        WireRefusal::BadValue { key: 4 },
-    );
-    refuses(
-        &rt,
-        alloc,
-        b"\x00\x01\x00\x00\x06\x00\x04\x01\x02\x03\x04",
-        7,
-        WireRefusal::BadValue { key: 6 },
-    );
+    // The key, and a priority, the root and a parameter of it.
+    let rows: [(u16, &[u8]); 9] = [
+        (0, b"\x00\x01\x00\x00\x00\x00\x00"),
+        (0, b"\x00\x01\x00\x00\x00\x00\x02\x00\x00"),
+        (0, b"\x00\x01\x00\x00\x00\x00\x04\x00\x02\x00\x02"),
+        (1, b"\x00\x01\x00\x00\x01\x00\x00"),
+        (1, b"\x00\x01\x00\x00\x01\x00\x01\x00"),
+        (2, b"\x00\x01\x00\x00\x02\x00\x01\x00"),
+        (3, b"\x00\x01\x00\x00\x03\x00\x01\x00"),
+        (4, b"\x00\x01\x00\x00\x04\x00\x00"),
+        (6, b"\x00\x01\x00\x00\x06\x00\x04\x01\x02\x03\x04"),
+    ];
+    for (key, octets) in rows {
+        refuses(&rt, rt.alloc(), octets, 7, WireRefusal::BadValue { key });
+    }
 }
 
 #[test]
@@ -208,55 +147,40 @@ fn lengths(rt: HostRuntime) -> Result<(), Fail> {
 
 #[test]
 fn records_that_a_client_can_use(rt: HostRuntime) -> Result<(), Fail> {
-    let alloc = rt.alloc();
-    judges(&rt, alloc, b"\x00\x01\x00", &HTTP2, (true, true))?;
-    judges(
-        &rt,
-        alloc,
-        b"\x00\x01\x00\x00\x02\x00\x00",
-        &ALL,
-        (false, false),
-    )?;
-    judges(
-        &rt,
-        alloc,
-        b"\x00\x01\x00\x00\x00\x00\x02\x00\x04",
-        &ALL,
-        (false, true),
-    )?;
-    judges(
-        &rt,
-        alloc,
-        b"\x00\x01\x00\x00\x00\x00\x02\x00\x05\x00\x05\x00\x00",
-        &ALL,
-        (true, false),
-    )?;
-    judges(
-        &rt,
-        alloc,
-        b"\x00\x01\x00\x00\x03\x00\x02\x00\x00",
-        &ALL,
-        (true, false),
-    )?;
-    judges(
-        &rt,
-        alloc,
-        b"\x00\x01\x00\x00\x01\x00\x03\x02h3\x00\x02\x00\x00",
-        &ALL,
-        (true, true),
-    )?;
-    judges(
-        &rt,
-        alloc,
-        b"\x00\x01\x00\x00\x01\x00\x03\x02h3\x00\x02\x00\x00",
-        &HTTP2,
-        (true, false),
-    )?;
-    judges(
-        &rt,
-        alloc,
-        b"\x00\x01\x00\x00\x01\x00\x03\x02h2\x00\x02\x00\x00",
-        &HTTP2,
-        (true, true),
-    )
+    // The octets, the supported protocols, whether the record is consistent, and whether it is compatible.
+    let rows: [(&[u8], Protos, bool, bool); 8] = [
+        (b"\x00\x01\x00", HTTP2, true, true),
+        (b"\x00\x01\x00\x00\x02\x00\x00", ALL, false, false),
+        (b"\x00\x01\x00\x00\x00\x00\x02\x00\x04", ALL, false, true),
+        (
+            b"\x00\x01\x00\x00\x00\x00\x02\x00\x05\x00\x05\x00\x00",
+            ALL,
+            true,
+            false,
+        ),
+        (b"\x00\x01\x00\x00\x03\x00\x02\x00\x00", ALL, true, false),
+        (
+            b"\x00\x01\x00\x00\x01\x00\x03\x02h3\x00\x02\x00\x00",
+            ALL,
+            true,
+            true,
+        ),
+        (
+            b"\x00\x01\x00\x00\x01\x00\x03\x02h3\x00\x02\x00\x00",
+            HTTP2,
+            true,
+            false,
+        ),
+        (
+            b"\x00\x01\x00\x00\x01\x00\x03\x02h2\x00\x02\x00\x00",
+            HTTP2,
+            true,
+            true,
+        ),
+    ];
+    for (octets, supported, consistent, compatible) in rows {
+        let found = can_use(rt.alloc(), octets, &supported)?;
+        assert_eq!(rt; found, (consistent, compatible));
+    }
+    Ok(())
 }
