@@ -1,12 +1,12 @@
 use crate::tests::{bytes_of, shown};
 use std::alloc::Global;
+use std::process::Abort;
 use std::test::Fail;
 
 /// An input, what is written for it, and the status.
 type Row = (&'static [u8], &'static [u8], u8);
 
-fn hold(rt: &HostRuntime, words: &[&[u8]], rows: &[Row]) -> Result<(), Fail> {
-    let alloc = rt.alloc();
+fn hold(rt: &impl Abort, alloc: Global, words: &[&[u8]], rows: &[Row]) -> Result<(), Fail> {
     for (input, written, status) in rows {
         let gave = shown(alloc, words, bytes_of(alloc, *input)?, &[], &[])?;
         assert_eq!(rt; gave.written.as_slice(), *written);
@@ -22,6 +22,7 @@ const WIRE: &[u8] =
 fn records_as_json(rt: HostRuntime) -> Result<(), Fail> {
     hold(
         &rt,
+        rt.alloc(),
         &[b"show", b"https", b"--json"],
         &[
             (
@@ -45,6 +46,7 @@ fn records_as_json(rt: HostRuntime) -> Result<(), Fail> {
 fn records_as_text(rt: HostRuntime) -> Result<(), Fail> {
     hold(
         &rt,
+        rt.alloc(),
         &[b"show", b"https"],
         &[
             (
@@ -63,6 +65,7 @@ fn records_as_text(rt: HostRuntime) -> Result<(), Fail> {
 fn texts_as_octets(rt: HostRuntime) -> Result<(), Fail> {
     hold(
         &rt,
+        rt.alloc(),
         &[b"write", b"https"],
         &[
             (

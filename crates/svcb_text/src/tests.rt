@@ -20,6 +20,15 @@ fn refuses(rt: &impl Abort, alloc: Global, text: &[u8], place: u32, reason: Reco
     assert_eq!(rt; answer, Err(Refused::At { place, reason }));
 }
 
+/// A text, and its refusal at a place.
+type Row = (&'static [u8], u32, RecordTextRefusal);
+
+fn refuses_each(rt: &impl Abort, alloc: Global, rows: &[Row]) {
+    for (text, place, reason) in rows {
+        refuses(rt, alloc, *text, *place, *reason);
+    }
+}
+
 fn count_of(alloc: Global, text: &[u8]) -> Result<usize, Refused<RecordTextRefusal>> {
     let value = parse(alloc, text)?;
     Ok(value.params.len())
@@ -127,81 +136,49 @@ fn blanks_and_absent_values(rt: HostRuntime) -> Result<(), Fail> {
 #[test]
 fn fronts_that_are_refused(rt: HostRuntime) {
     let alloc = rt.alloc();
-    refuses(&rt, alloc, b"", 0, RecordTextRefusal::BadPriority);
-    refuses(&rt, alloc, b" \t", 2, RecordTextRefusal::BadPriority);
-    refuses(&rt, alloc, b" 65536 .", 1, RecordTextRefusal::BadPriority);
-    refuses(&rt, alloc, b"1x .", 0, RecordTextRefusal::BadPriority);
-    refuses(&rt, alloc, b"+1 .", 0, RecordTextRefusal::BadPriority);
-    refuses(&rt, alloc, b"1", 1, RecordTextRefusal::BadTarget);
-    refuses(&rt, alloc, b"1  ", 3, RecordTextRefusal::BadTarget);
-    refuses(&rt, alloc, b" 1 a..b", 5, RecordTextRefusal::BadTarget);
-    refuses(
+    refuses_each(
         &rt,
         alloc,
-        b"1 a\\9 port=x",
-        3,
-        RecordTextRefusal::BadTarget,
+        &[
+            (b"", 0, RecordTextRefusal::BadPriority),
+            (b" \t", 2, RecordTextRefusal::BadPriority),
+            (b" 65536 .", 1, RecordTextRefusal::BadPriority),
+            (b"1x .", 0, RecordTextRefusal::BadPriority),
+            (b"+1 .", 0, RecordTextRefusal::BadPriority),
+            (b"1", 1, RecordTextRefusal::BadTarget),
+            (b"1  ", 3, RecordTextRefusal::BadTarget),
+            (b" 1 a..b", 5, RecordTextRefusal::BadTarget),
+            (b"1 a\\9 port=x", 3, RecordTextRefusal::BadTarget),
+        ],
     );
 }
 
 #[test]
 fn keys_that_are_refused(rt: HostRuntime) {
     let alloc = rt.alloc();
-    refuses(&rt, alloc, b"1 . =1", 4, RecordTextRefusal::BadKey);
-    refuses(&rt, alloc, b"1 . Port=1", 4, RecordTextRefusal::BadKey);
-    refuses(&rt, alloc, b"1 . ech", 4, RecordTextRefusal::BadKey);
-    refuses(&rt, alloc, b"1 . key3=1", 4, RecordTextRefusal::BadKey);
-    refuses(&rt, alloc, b"1 . key07", 4, RecordTextRefusal::BadKey);
-    refuses(&rt, alloc, b"1 . key65536", 4, RecordTextRefusal::BadKey);
-    refuses(&rt, alloc, b"1 . key7\"\"", 4, RecordTextRefusal::BadKey);
-    refuses(
+    refuses_each(
         &rt,
         alloc,
-        b"1 foo.example.com. key123=abc key123=def",
-        30,
-        RecordTextRefusal::RepeatedKey,
-    );
-    refuses(
-        &rt,
-        alloc,
-        b"1 . port=1 port=\"",
-        11,
-        RecordTextRefusal::RepeatedKey,
-    );
-    refuses(
-        &rt,
-        alloc,
-        b"1 . key8=\" key8",
-        15,
-        RecordTextRefusal::BadString,
-    );
-    refuses(
-        &rt,
-        alloc,
-        b"1 . key8=a\"b",
-        10,
-        RecordTextRefusal::BadString,
-    );
-    refuses(
-        &rt,
-        alloc,
-        b"1 . key8=a\\25",
-        10,
-        RecordTextRefusal::BadString,
-    );
-    refuses(
-        &rt,
-        alloc,
-        b"1 . key8=\"a\\",
-        11,
-        RecordTextRefusal::BadString,
-    );
-    refuses(
-        &rt,
-        alloc,
-        b"1 . key8=\"a\"b",
-        12,
-        RecordTextRefusal::BadString,
+        &[
+            (b"1 . =1", 4, RecordTextRefusal::BadKey),
+            (b"1 . Port=1", 4, RecordTextRefusal::BadKey),
+            (b"1 . ech", 4, RecordTextRefusal::BadKey),
+            (b"1 . key3=1", 4, RecordTextRefusal::BadKey),
+            (b"1 . key07", 4, RecordTextRefusal::BadKey),
+            (b"1 . key65536", 4, RecordTextRefusal::BadKey),
+            (b"1 . key7\"\"", 4, RecordTextRefusal::BadKey),
+            (
+                b"1 foo.example.com. key123=abc key123=def",
+                30,
+                RecordTextRefusal::RepeatedKey,
+            ),
+            (b"1 . port=1 port=\"", 11, RecordTextRefusal::RepeatedKey),
+            (b"1 . key8=\" key8", 15, RecordTextRefusal::BadString),
+            (b"1 . key8=a\"b", 10, RecordTextRefusal::BadString),
+            (b"1 . key8=a\\25", 10, RecordTextRefusal::BadString),
+            (b"1 . key8=\"a\\", 11, RecordTextRefusal::BadString),
+            (b"1 . key8=\"a\"b", 12, RecordTextRefusal::BadString),
+        ],
     );
 }
 
@@ -209,83 +186,50 @@ fn keys_that_are_refused(rt: HostRuntime) {
 #[test]
 fn values_that_are_refused(rt: HostRuntime) {
     let alloc = rt.alloc();
-    let target = b"1 foo.example.com. mandatory".as_slice();
-    refuses(
+    refuses_each(
         &rt,
         alloc,
-        target,
-        28,
-        RecordTextRefusal::BadValue { key: 0 },
-    );
-    refuses(
-        &rt,
-        alloc,
-        b"1 foo.example.com. no-default-alpn=abc",
-        35,
-        RecordTextRefusal::BadValue { key: 2 },
-    );
-    refuses(
-        &rt,
-        alloc,
-        b"1 foo.example.com. mandatory=mandatory",
-        29,
-        RecordTextRefusal::BadValue { key: 0 },
-    );
-    refuses(
-        &rt,
-        alloc,
-        b"1 foo.example.com. mandatory=key123,key123 key123=abc",
-        29,
-        RecordTextRefusal::BadValue { key: 0 },
-    );
-    refuses(
-        &rt,
-        alloc,
-        b"1 . alpn",
-        8,
-        RecordTextRefusal::BadValue { key: 1 },
-    );
-    refuses(
-        &rt,
-        alloc,
-        b"1 . port=+53",
-        9,
-        RecordTextRefusal::BadValue { key: 3 },
-    );
-    refuses(
-        &rt,
-        alloc,
-        b"1 . port=\\053",
-        9,
-        RecordTextRefusal::BadValue { key: 3 },
-    );
-    refuses(
-        &rt,
-        alloc,
-        b"1 . ipv4hint=::1",
-        13,
-        RecordTextRefusal::BadValue { key: 4 },
-    );
-    refuses(
-        &rt,
-        alloc,
-        b"1 . ipv6hint= x",
-        13,
-        RecordTextRefusal::BadValue { key: 6 },
-    );
-    refuses(
-        &rt,
-        alloc,
-        b"1 foo.example.com. mandatory=key123",
-        35,
-        RecordTextRefusal::Inconsistent,
-    );
-    refuses(
-        &rt,
-        alloc,
-        b"1 . no-default-alpn ",
-        20,
-        RecordTextRefusal::Inconsistent,
+        &[
+            (
+                b"1 foo.example.com. mandatory",
+                28,
+                RecordTextRefusal::BadValue { key: 0 },
+            ),
+            (
+                b"1 foo.example.com. no-default-alpn=abc",
+                35,
+                RecordTextRefusal::BadValue { key: 2 },
+            ),
+            (
+                b"1 foo.example.com. mandatory=mandatory",
+                29,
+                RecordTextRefusal::BadValue { key: 0 },
+            ),
+            (
+                b"1 foo.example.com. mandatory=key123,key123 key123=abc",
+                29,
+                RecordTextRefusal::BadValue { key: 0 },
+            ),
+            (b"1 . alpn", 8, RecordTextRefusal::BadValue { key: 1 }),
+            (b"1 . port=+53", 9, RecordTextRefusal::BadValue { key: 3 }),
+            (b"1 . port=\\053", 9, RecordTextRefusal::BadValue { key: 3 }),
+            (
+                b"1 . ipv4hint=::1",
+                13,
+                RecordTextRefusal::BadValue { key: 4 },
+            ),
+            (
+                b"1 . ipv6hint= x",
+                13,
+                RecordTextRefusal::BadValue { key: 6 },
+            ),
+            (
+                b"1 foo.example.com. mandatory=key123",
+                35,
+                RecordTextRefusal::Inconsistent,
+            ),
+            (b"1 . no-default-alpn ", 20, RecordTextRefusal::Inconsistent),
+        ],
     );
 }
 
