@@ -14,3 +14,4 @@ pub mod ValueGrammar
 pub mod ValueRefusals
 pub mod Valid
 pub mod UsedGrammar
+pub mod RefusalNumbers

@@ -1,3 +1,6 @@
+ghost use Rattle.std.specs.Prelude.{◌≡◌};
+ghost use Rattle.altsvc_grammar.specs.RefusalNumbers.{refusal_number};
+
 /// Why a text is no value of an Alt-Svc field.
 #[derive(Clone, Copy, Debug, PartialEq, Eq, Hash)]
 pub enum AltRefusal {
@@ -19,6 +22,25 @@ pub enum AltRefusal {
     Trailing,
     /// There are more than 16,384 bytes.
     TooLong,
+}
+
+impl AltRefusal {
+    /// Its number, from 1 in the order in which the refusals stand here. It takes no memory.
+    pub fn number(self) -> u8
+        ensures { result ≡ refusal_number self }
+    {
+        match self {
+            AltRefusal::Empty => 1,
+            AltRefusal::BadToken => 2,
+            AltRefusal::BadPercent => 3,
+            AltRefusal::NoEquals => 4,
+            AltRefusal::BadQuoted => 5,
+            AltRefusal::BadAuthority => 6,
+            AltRefusal::BadParameter => 7,
+            AltRefusal::Trailing => 8,
+            AltRefusal::TooLong => 9,
+        }
+    }
 }
 
 /// Why a text is no value of an Alt-Used field.
