@@ -1,3 +1,6 @@
+ghost use Rattle.std.specs.Prelude.{◌≡◌};
+ghost use Rattle.altsvc_grammar.specs.Keys.{key_eq};
+
 use alt_base::{Bytes, Duplicate, NoMemory};
 use origin_values::Host;
 use std::alloc::Global;
@@ -23,4 +26,11 @@ impl Duplicate for AltKey {
             port: self.port,
         })
     }
+}
+
+/// Whether two keys are one: the same protocol, host and port. It takes no memory.
+pub fn same_key(a: &AltKey, b: &AltKey) -> bool
+    ensures { result ≡ key_eq a.now b.now }
+{
+    a == b
 }

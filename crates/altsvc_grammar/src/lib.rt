@@ -29,7 +29,7 @@ mod value;
 mod written;
 
 pub use alt::{Alt, Alts};
-pub use alt_key::AltKey;
+pub use alt_key::{AltKey, same_key};
 pub use alt_svc::AltSvc;
 pub use laws::{
     authorities_are_read, one_alt_svc, one_alt_used, one_key_where_equal, spelled_values_are_valid,
