@@ -10,9 +10,12 @@ use Rattle.origin_values.specs.declared.scheme.Scheme.TheVariants.{Http, Https}
 use Rattle.origin_values.specs.declared.host.Host.{Host}
 use Rattle.origin_values.specs.declared.host.Host.TheVariants.{Name, V4, V6}
 use Rattle.origin_values.specs.declared.origin.Origin.{Origin}
+use Rattle.std.specs.Option.{option_eq}
+use Rattle.altsvc_grammar.specs.Keys.{key_eq}
+use Rattle.altsvc_grammar.specs.declared.alt_key.AltKey.{AltKey}
 use Rattle.route_events.specs.declared.action.Action.TheVariants.{OpenTo, SendOn, Refuse}
 use Rattle.route_events.specs.declared.route.Route.{Route}
-use Rattle.route_events.specs.declared.route.Route.TheVariants.{Direct}
+use Rattle.route_events.specs.declared.route.Route.TheVariants.{Direct, Alt}
 use Rattle.route_events.specs.declared.request.Request.{Request}
 use Rattle.route_events.specs.declared.attempt.Attempt.{Attempt}
 use Rattle.route_events.specs.declared.connection.Connection.{Connection}
@@ -21,8 +24,9 @@ use Rattle.route_events.specs.Journal.{Happened, Taken, Journal, newest_moment}
 use Rattle.route_events.specs.Attempts.{attempts, has_ended, pending}
 use Rattle.route_events.specs.Requests.{requests}
 use Rattle.route_events.specs.Connections.{connections, outstanding, is_busy, is_http11, is_none_out}
-use Rattle.route_events.specs.Authority.{is_authoritative, has_basis}
-use Rattle.route_events.specs.Routes.{route_eq, is_on, routes, is_usable, usable_routes, has_pending}
+use Rattle.route_events.specs.Authority.{route_eq, is_authoritative, has_basis}
+use Rattle.route_events.specs.Backoff.{is_on}
+use Rattle.route_events.specs.Routes.{routes, is_usable, usable_routes, has_pending}
 use Rattle.route_events.specs.Dispatch.{is_by_alternative, carriers, free_carriers, first_of, or_else, best, first_alternative, decide, dispatch}
 use Rattle.route_events.proofs.Lists.{IsIn, nat_eq-self, in_filter, filter_same, filter_fewer, filter_end, list_any_more, or_left, or_right}
 use Rattle.route_events.proofs.Sound.{Sound}
@@ -113,29 +117,29 @@ IsResting free pending usable carriers = (free ≡ None) × ((pending ≡ true) 
 cons_nil : {X A : Type 0} (x : X) (xs : List X) → x ∷ xs ≡ [] → A
 cons_nil x xs e = absurd (true≢false (sym (ap is_none_left e)))
 
-pub resting : (j : Journal) (q : Request) (beside : Option Route) (free : Option Connection) (pending : Bool) (usable : List Route) (cs : List Connection) → decide j q beside free pending usable cs ≡ [] → IsResting free pending usable cs
-resting j q beside (Some c) pending usable cs e = cons_nil _ _ e
-resting j q beside None true usable cs e = (refl, inl refl)
-resting j q beside None false (r ∷ usable) cs e = cons_nil _ _ e
-resting j q beside None false [] (c ∷ cs) e = (refl, inr (refl, refl))
-resting j q beside None false [] [] e = cons_nil _ _ e
+pub resting : (j : Journal) (q : Request) (now : ℕ) (beside : Option Route) (free : Option Connection) (pending : Bool) (usable : List Route) (cs : List Connection) → decide j q now beside free pending usable cs ≡ [] → IsResting free pending usable cs
+resting j q now beside (Some c) pending usable cs e = cons_nil _ _ e
+resting j q now beside None true usable cs e = (refl, inl refl)
+resting j q now beside None false (r ∷ usable) cs e = cons_nil _ _ e
+resting j q now beside None false [] (c ∷ cs) e = (refl, inr (refl, refl))
+resting j q now beside None false [] [] e = cons_nil _ _ e
 
-pub rested : (j : Journal) (q : Request) (beside : Option Route) (free : Option Connection) (pending : Bool) (usable : List Route) (cs : List Connection) → IsResting free pending usable cs → decide j q beside free pending usable cs ≡ []
-rested j q beside (Some c) pending usable cs h = absurd (true≢false (ap is_some h.0))
-rested j q beside None true usable cs h = refl
-rested j q beside None false (r ∷ usable) cs (e, inl p) = absurd (true≢false (sym p))
-rested j q beside None false (r ∷ usable) cs (e, inr p) = cons_nil _ _ p.0
-rested j q beside None false [] (c ∷ cs) h = refl
-rested j q beside None false [] [] (e, inl p) = absurd (true≢false (sym p))
-rested j q beside None false [] [] (e, inr p) = absurd (true≢false p.1)
+pub rested : (j : Journal) (q : Request) (now : ℕ) (beside : Option Route) (free : Option Connection) (pending : Bool) (usable : List Route) (cs : List Connection) → IsResting free pending usable cs → decide j q now beside free pending usable cs ≡ []
+rested j q now beside (Some c) pending usable cs h = absurd (true≢false (ap is_some h.0))
+rested j q now beside None true usable cs h = refl
+rested j q now beside None false (r ∷ usable) cs (e, inl p) = absurd (true≢false (sym p))
+rested j q now beside None false (r ∷ usable) cs (e, inr p) = cons_nil _ _ p.0
+rested j q now beside None false [] (c ∷ cs) h = refl
+rested j q now beside None false [] [] (e, inl p) = absurd (true≢false (sym p))
+rested j q now beside None false [] [] (e, inr p) = absurd (true≢false p.1)
 
 -- a request for which nothing is to be done stays so
 pub rests_still : (j k : Journal) (now : ℕ) (q : Request) → Quiet j k now → dispatch j q now ≡ [] → dispatch k q now ≡ []
 rests_still j k now q quiet rests =
-    let was = resting j q (first_alternative j q.origin now) (best j q.origin now (free_carriers j q.origin now)) (list_any (has_pending j q.origin) (usable_routes j q now)) (usable_routes j q now) (carriers j q.origin now) rests in
+    let was = resting j q now (first_alternative j q.origin now) (best j q.origin now (free_carriers j q.origin now)) (list_any (has_pending j q.origin) (usable_routes j q now)) (usable_routes j q now) (carriers j q.origin now) rests in
     let none : best k q.origin now (free_carriers k q.origin now) ≡ None =
     best_none k q.origin now (free_carriers k q.origin now) (none_freed j k now q.origin quiet (none_best j q.origin now (free_carriers j q.origin now) was.0)) in
-    rested k q (first_alternative k q.origin now) (best k q.origin now (free_carriers k q.origin now)) (list_any (has_pending k q.origin) (usable_routes k q now)) (usable_routes k q now) (carriers k q.origin now) (none, by_reason was.1)
+    rested k q now (first_alternative k q.origin now) (best k q.origin now (free_carriers k q.origin now)) (list_any (has_pending k q.origin) (usable_routes k q now)) (usable_routes k q now) (carriers k q.origin now) (none, by_reason was.1)
   where
     by_reason : ((list_any (has_pending j q.origin) (usable_routes j q now) ≡ true) ⊎ ((usable_routes j q now ≡ []) × (is_none_left (carriers j q.origin now) ≡ false))) → ((list_any (has_pending k q.origin) (usable_routes k q now) ≡ true) ⊎ ((usable_routes k q now ≡ []) × (is_none_left (carriers k q.origin now) ≡ false)))
     by_reason (inl pending) = inl (ap (list_any (has_pending k q.origin)) (usable_routes_same j k now q quiet) ∙ list_any_more (has_pending j q.origin) (has_pending k q.origin) (usable_routes j q now) (quiet.pending_stays q.origin) pending)
@@ -198,20 +202,28 @@ pub text_same : (xs : List ℕ) → pointwise nat_eq xs xs ≡ true
 text_same [] = refl
 text_same (x ∷ xs) = rw (nat_eq-self x) (text_same xs)
 
+pub host_eq-self : (h : Host) → host_eq h h ≡ true
+host_eq-self (Name name) = text_same name
+host_eq-self (V4 bytes) = text_same bytes
+host_eq-self (V6 bytes) = text_same bytes
+
 pub origin_eq-self : (o : Origin) → origin_eq o o ≡ true
-origin_eq-self o = rw (scheme_same o.scheme, host_same o.host, nat_eq-self o.port) refl
+origin_eq-self o = rw (scheme_same o.scheme, host_eq-self o.host, nat_eq-self o.port) refl
   where
     scheme_same : (s : Scheme) → scheme_eq s s ≡ true
     scheme_same Http = refl
     scheme_same Https = refl
 
-    host_same : (h : Host) → host_eq h h ≡ true
-    host_same (Name name) = text_same name
-    host_same (V4 bytes) = text_same bytes
-    host_same (V6 bytes) = text_same bytes
+pub key_eq-self : (key : AltKey) → key_eq key key ≡ true
+key_eq-self key = rw (text_same key.proto, optional_same key.host, nat_eq-self key.port) refl
+  where
+    optional_same : (h : Option Host) → option_eq host_eq h h ≡ true
+    optional_same None = refl
+    optional_same (Some h) = host_eq-self h
 
 pub route_eq-self : (r : Route) → route_eq r r ≡ true
 route_eq-self Direct = refl
+route_eq-self (Alt key) = key_eq-self key
 
 -- an attempt that was just started is pending
 pub opened_pending : (j : Journal) (o : Origin) (r : Route) → Sound j → has_pending (Taken (OpenTo (length (attempts j) + 1) o r) ∷ j) o r ≡ true

@@ -1,21 +1,28 @@
 -- The laws of all runs.
-use Rattle.std.proofs.Common.{◌≡◌, ℕ, true, cond, List, [], ◌∷◌, ◌++◌, map, Option, Some, None, is_some, All, refl, sym, ◌∙◌, subst}
+use Rattle.std.proofs.Common.{◌≡◌, ℕ, Bool, true, false, cond, not, nat_eq, List, [], ◌∷◌, ◌++◌, map, Option, Some, None, is_some, Result, Ok, Err, All, refl, sym, ◌∙◌, subst}
+use Rattle.std.specs.Option.{option_map_or}
+use Rattle.alt_base.specs.declared.refusal.At.{At}
+use Rattle.altsvc_grammar.specs.declared.alt_svc.AltSvc.{AltSvc}
+use Rattle.altsvc_grammar.specs.declared.refusal.AltRefusal.{AltRefusal}
+use Rattle.altsvc_grammar.specs.ValueReading.{read_value}
 use Rattle.route_events.specs.declared.fact.Fact.{Fact}
-use Rattle.route_events.specs.declared.fact.Fact.TheVariants.{Closed, Tick}
+use Rattle.route_events.specs.declared.fact.Fact.TheVariants.{Closed, Response, Tick}
 use Rattle.route_events.specs.declared.action.Action.{Action}
-use Rattle.route_events.specs.declared.action.Action.TheVariants.{Lost}
+use Rattle.route_events.specs.declared.action.Action.TheVariants.{Lost, Field}
 use Rattle.route_events.specs.declared.refusal.StepRefusal.{StepRefusal}
 use Rattle.route_events.specs.declared.request.Request.{Request}
 use Rattle.route_events.specs.Journal.{Happened, Taken, Journal, newest_moment}
-use Rattle.route_events.specs.Requests.{requests, standing, waits, waiting}
+use Rattle.route_events.specs.Requests.{requests, request_of, standing, waits, waiting}
 use Rattle.route_events.specs.Connections.{outstanding}
+use Rattle.route_events.specs.Authority.{is_https}
 use Rattle.route_events.specs.Dispatch.{dispatch}
+use Rattle.route_events.specs.Advertisements.{is_answered_by_authority, value_taken, value_of_reading, field_effects}
 use Rattle.route_events.specs.Step.{IsRun, Begun, Stepped, refusal, settled, step, run, effects, with_fact}
 use Rattle.route_events.specs.Headline.{MayWait, IsAllowed, EachAction}
 use Rattle.route_events.proofs.Lists.{IsIn, in_filter, filter_in, apart_filter, all_from_in}
 use Rattle.route_events.proofs.Sound.{Sound, sound_begun, sound_fact}
 use Rattle.route_events.proofs.Quiet.{rests_still, quiet_tick}
-use Rattle.route_events.proofs.Settles.{Settles, settles, settle_nothing, may_wait, AreEffects, effected}
+use Rattle.route_events.proofs.Settles.{Settles, settles, settle_nothing, may_wait, IsEffect, AreEffects, effected}
 
 -- what holds after each step
 pub record IsSettled (journal : Journal) : Type 0 where
@@ -48,17 +55,44 @@ settled_is j now sound allowed moment =
           (all.done q (filter_in (λ (r : Request). waits (standing j r.number)) q (requests j) (subst (IsIn q) all.quiet.requests_same still.0) (all.fewer q.number still.1)) still.1);
     }
 
+-- what is done for a response is one action that no request stands on, or none
+field_effect : (j : Journal) (now status : ℕ) (altsvc : Option (List ℕ)) (q : Request) → AreEffects (field_effects j now status altsvc q)
+unfolding value_taken
+field_effect j now status None q = tt
+field_effect j now status (Some bytes) q = (by_misdirected (nat_eq status 421), tt)
+  where
+    by_reading : (w : Result AltSvc (At AltRefusal)) → IsEffect (value_of_reading q w)
+    by_reading (Ok value) = tt
+    by_reading (Err at) = tt
+
+    by_authority : (b : Bool) → IsEffect (cond b (Field q.number 13 0) (value_taken q bytes))
+    by_authority true = tt
+    by_authority false = by_reading (read_value bytes)
+
+    by_scheme : (b : Bool) → IsEffect (cond b (Field q.number 12 0) (cond (not (is_answered_by_authority j now q)) (Field q.number 13 0) (value_taken q bytes)))
+    by_scheme true = tt
+    by_scheme false = by_authority (not (is_answered_by_authority j now q))
+
+    by_misdirected : (b : Bool) → IsEffect (cond b (Field q.number 11 0) (cond (not (is_https q.origin.scheme)) (Field q.number 12 0) (cond (not (is_answered_by_authority j now q)) (Field q.number 13 0) (value_taken q bytes))))
+    by_misdirected true = tt
+    by_misdirected false = by_scheme (not (is_https q.origin.scheme))
+
+answer_effect : (j : Journal) (now status : ℕ) (altsvc : Option (List ℕ)) (w : Option Request) → AreEffects (option_map_or (field_effects j now status altsvc) w [])
+answer_effect j now status altsvc None = tt
+answer_effect j now status altsvc (Some q) = field_effect j now status altsvc q
+
 are_lost : (qs : List ℕ) → AreEffects (map Lost qs)
 are_lost [] = tt
 are_lost (q ∷ qs) = (tt, are_lost qs)
 
-pub are_effects : (j : Journal) (fact : Fact) → AreEffects (effects j fact)
-are_effects j (Closed conn) = are_lost (outstanding j conn)
-are_effects j _ = tt
+pub are_effects : (j : Journal) (now : ℕ) (fact : Fact) → AreEffects (effects j now fact)
+are_effects j now (Closed conn) = are_lost (outstanding j conn)
+are_effects j now (Response q status age altsvc) = answer_effect j now status altsvc (request_of j q)
+are_effects j now _ = tt
 
 step_is : (j : Journal) (now : ℕ) (fact : Fact) → refusal j now fact ≡ None → IsSettled j → IsSettled (step j now fact)
 step_is j now fact free was =
-    let done = effected (Happened now fact true ∷ j) (effects j fact) (are_effects j fact) in
+    let done = effected (Happened now fact true ∷ j) (effects j now fact) (are_effects j now fact) in
     settled_is (with_fact j now fact) now (done.sound (sound_fact j now fact free was.sound)) (done.allowed was.allowed) done.moment
 
 pub each : {j : Journal} → IsRun j → IsSettled j

@@ -4,7 +4,7 @@ use Rattle.std.specs.Option.{option_map_or}
 use Rattle.std.specs.List.{list_any}
 use Rattle.origin_values.specs.declared.origin.Origin.{Origin}
 use Rattle.route_events.specs.declared.action.Action.{Action}
-use Rattle.route_events.specs.declared.action.Action.TheVariants.{OpenTo, Refuse, Lost}
+use Rattle.route_events.specs.declared.action.Action.TheVariants.{OpenTo, Refuse, Lost, Alternatives, Field}
 use Rattle.route_events.specs.declared.route.Route.{Route}
 use Rattle.route_events.specs.declared.request.Request.{Request}
 use Rattle.route_events.specs.declared.connection.Connection.{Connection}
@@ -18,7 +18,7 @@ use Rattle.route_events.specs.Dispatch.{carriers, free_carriers, best, send, ope
 use Rattle.route_events.specs.Step.{with_actions, settle}
 use Rattle.route_events.specs.Headline.{MaySend, MayRefuse, MayWait, IsAllowed, EachAction}
 use Rattle.route_events.proofs.Lists.{IsIn, AreApart, contradicts, nat_eq-self, in_filter, find_apart, none_left, some_in, any_from_in, all_from_in, not_true, not_false}
-use Rattle.route_events.proofs.Sound.{Sound, sound_send, sound_open, sound_refuse, sound_lost}
+use Rattle.route_events.proofs.Sound.{Sound, sound_send, sound_open, sound_refuse, sound_lost, sound_alternatives, sound_field}
 use Rattle.route_events.proofs.Quiet.{Quiet, quiet_same, quiet_twice, quiet_send, quiet_open, quiet_refuse, usable_routes_same, none_freed, best_none, none_best, best_in, is_none_left, resting, rested, rests_still, opened_pending}
 
 -- what settling some requests makes of a journal
@@ -123,18 +123,18 @@ beside_settles j a now o (Some r) same sound = by_use (is_in_use j o r)
 decided : (j : Journal) (now : ℕ) (q : Request) (beside : Option Route) (free : Option Connection) (pending : Bool) (usable : List Route) (cs : List Connection)
     → best j q.origin now (free_carriers j q.origin now) ≡ free → list_any (has_pending j q.origin) (usable_routes j q now) ≡ pending → usable_routes j q now ≡ usable → carriers j q.origin now ≡ cs
     → Sound j → newest_moment j ≡ now → IsIn q (requests j) → waits (standing j q.number) ≡ true
-    → Settles j (with_actions j (decide j q beside free pending usable cs)) now (q ∷ [])
+    → Settles j (with_actions j (decide j q now beside free pending usable cs)) now (q ∷ [])
 decided j now q beside (Some c) pending usable cs is_best is_pending is_usable is_carriers sound moment asked waiting =
-    settles_more j (Taken (send j q c) ∷ j) _ now q [] sent (beside_settles j (send j q c) now q.origin beside refl sent.sound)
+    settles_more j (Taken (send j q now c) ∷ j) _ now q [] sent (beside_settles j (send j q now c) now q.origin beside refl sent.sound)
   where
     c_free : IsFree j now q.origin c
     c_free = free_of j now q.origin c (best_in j q.origin now c (free_carriers j q.origin now) is_best)
 
-    done_of : (r : Request) → IsIn r (q ∷ []) → waits (standing (Taken (send j q c) ∷ j) r.number) ≡ true → dispatch (Taken (send j q c) ∷ j) r now ≡ []
-    done_of r (inl same) h = moved_self q.number (OutOn c.number) (standing j q.number) refl (subst (λ (x : Request). waits (standing (Taken (send j q c) ∷ j) x.number) ≡ true) same h)
+    done_of : (r : Request) → IsIn r (q ∷ []) → waits (standing (Taken (send j q now c) ∷ j) r.number) ≡ true → dispatch (Taken (send j q now c) ∷ j) r now ≡ []
+    done_of r (inl same) h = moved_self q.number (OutOn c.number) (standing j q.number) refl (subst (λ (x : Request). waits (standing (Taken (send j q now c) ∷ j) x.number) ≡ true) same h)
     done_of r (inr none) h = absurd none
 
-    sent : Settles j (Taken (send j q c) ∷ j) now (q ∷ [])
+    sent : Settles j (Taken (send j q now c) ∷ j) now (q ∷ [])
     sent = record {
       quiet = quiet_send j now q.number c.number _ _;
       sound = sound_send j q.number c.number _ _ waiting (sound.newest q asked) (sound.ended c c_free.there) sound;
@@ -153,7 +153,7 @@ decided j now q beside None true usable cs is_best is_pending is_usable is_carri
 }
   where
     done_of : (r : Request) → IsIn r (q ∷ []) → waits (standing j r.number) ≡ true → dispatch j r now ≡ []
-    done_of r (inl same) h = subst (λ x. dispatch j x now ≡ []) (sym same) (rested j q (first_alternative j q.origin now) _ _ _ _ (is_best, inl is_pending))
+    done_of r (inl same) h = subst (λ x. dispatch j x now ≡ []) (sym same) (rested j q now (first_alternative j q.origin now) _ _ _ _ (is_best, inl is_pending))
     done_of r (inr none) h = absurd none
 decided j now q beside None false (route ∷ usable) cs is_best is_pending is_usable is_carriers sound moment asked waiting = record {
   quiet = quiet_open j now _ q.origin route;
@@ -174,7 +174,7 @@ decided j now q beside None false (route ∷ usable) cs is_best is_pending is_us
     has_one = ap (list_any (has_pending k q.origin)) (usable_routes_same j k now q (quiet_open j now _ q.origin route) ∙ is_usable) ∙ ap (λ b. b || list_any (has_pending k q.origin) usable) (opened_pending j q.origin route sound)
 
     done_of : (r : Request) → IsIn r (q ∷ []) → waits (standing k r.number) ≡ true → dispatch k r now ≡ []
-    done_of r (inl same) h = subst (λ x. dispatch k x now ≡ []) (sym same) (rested k q (first_alternative k q.origin now) _ _ _ _ (no_best, inl has_one))
+    done_of r (inl same) h = subst (λ x. dispatch k x now ≡ []) (sym same) (rested k q now (first_alternative k q.origin now) _ _ _ _ (no_best, inl has_one))
     done_of r (inr none) h = absurd none
 decided j now q beside None false [] (c ∷ cs) is_best is_pending is_usable is_carriers sound moment asked waiting = record {
   quiet = quiet_same j now;
@@ -186,7 +186,7 @@ decided j now q beside None false [] (c ∷ cs) is_best is_pending is_usable is_
 }
   where
     done_of : (r : Request) → IsIn r (q ∷ []) → waits (standing j r.number) ≡ true → dispatch j r now ≡ []
-    done_of r (inl same) h = subst (λ x. dispatch j x now ≡ []) (sym same) (rested j q (first_alternative j q.origin now) _ _ _ _ (is_best, inr (is_usable, ap is_none_left is_carriers)))
+    done_of r (inl same) h = subst (λ x. dispatch j x now ≡ []) (sym same) (rested j q now (first_alternative j q.origin now) _ _ _ _ (is_best, inr (is_usable, ap is_none_left is_carriers)))
     done_of r (inr none) h = absurd none
 decided j now q beside None false [] [] is_best is_pending is_usable is_carriers sound moment asked waiting = record {
   quiet = quiet_refuse j now q.number;
@@ -234,7 +234,7 @@ settle_nothing j now (q ∷ qs) rests = ap (λ as'. settle (with_actions j as') 
 -- a request for which nothing is to be done may wait
 pub may_wait : (j : Journal) (q : Request) → dispatch j q (newest_moment j) ≡ [] → MayWait j q
 may_wait j q rests =
-    let was = resting j q (first_alternative j q.origin now) (best j q.origin now (free_carriers j q.origin now)) (list_any (has_pending j q.origin) (usable_routes j q now)) (usable_routes j q now) (carriers j q.origin now) rests in
+    let was = resting j q now (first_alternative j q.origin now) (best j q.origin now (free_carriers j q.origin now)) (list_any (has_pending j q.origin) (usable_routes j q now)) (usable_routes j q now) (carriers j q.origin now) rests in
     by_reason (none_best j q.origin now (free_carriers j q.origin now) was.0) was.1
   where
     now : ℕ
@@ -261,6 +261,8 @@ may_wait j q rests =
 
 abbrev pub IsEffect : Action → Type 0
 IsEffect (Lost q) = Unit {0}
+IsEffect (Alternatives o value) = Unit {0}
+IsEffect (Field q reason place) = Unit {0}
 IsEffect _ = ⊥
 
 abbrev pub AreEffects : List Action → Type 0
@@ -274,6 +276,8 @@ pub record Effected (before after : Journal) : Type 0 where
 
 effected_one : (j : Journal) (a : Action) → IsEffect a → Effected j (Taken a ∷ j)
 effected_one j (Lost q) h = record { sound = sound_lost j q; allowed = λ h. (tt, h); moment = refl }
+effected_one j (Alternatives o value) h = record { sound = sound_alternatives j o value; allowed = λ h. (tt, h); moment = refl }
+effected_one j (Field q reason place) h = record { sound = sound_field j q reason place; allowed = λ h. (tt, h); moment = refl }
 effected_one j _ h = absurd h
 
 pub effected : (j : Journal) (as' : List Action) → AreEffects as' → Effected j (with_actions j as')

@@ -4,13 +4,14 @@ use Rattle.std.proofs.Common.{◌≡◌, ◌⊎◌, inl, inr, ℕ, ◌+◌, ◌<
 use Rattle.std.specs.Option.{option_map, option_map_or}
 use Rattle.std.proofs.lemmas.List.{length-append}
 use Rattle.coalescing.specs.declared.cert_name.CertName.{CertName}
+use Rattle.altsvc_grammar.specs.declared.alt_svc.AltSvc.{AltSvc}
 use Rattle.origin_values.specs.declared.origin.Origin.{Origin}
 use Rattle.origin_values.specs.declared.host.Host.{Host}
 use Rattle.origin_values.specs.declared.proto.Proto.{Proto}
 use Rattle.origin_values.specs.declared.address.Addr.{Addr}
 use Rattle.route_events.specs.declared.fact.Fact.{Fact}
 use Rattle.route_events.specs.declared.fact.Fact.TheVariants as fact
-use Rattle.route_events.specs.declared.action.Action.TheVariants.{OpenTo, SendOn, Refuse, Lost}
+use Rattle.route_events.specs.declared.action.Action.TheVariants.{OpenTo, SendOn, Refuse, Lost, Alternatives, Field}
 use Rattle.route_events.specs.declared.route.Route.{Route}
 use Rattle.route_events.specs.declared.request.Request.{Request}
 use Rattle.route_events.specs.declared.attempt.Attempt.{Attempt}
@@ -162,6 +163,35 @@ sound_lost j q sound = record {
     by_test : (conn r : ℕ) (b : Bool) → b ≡ false → standing j r ≡ Some (OutOn conn) → option_map_or Some (cond b (Some Over) None) (standing j r) ≡ Some (OutOn conn)
     by_test conn r false e out = out
     by_test conn r true e out = absurd (true≢false e)
+
+-- what a value of alternatives changes is none of this
+pub sound_alternatives : (j : Journal) (o : Origin) (value : AltSvc) → Sound j → Sound (Taken (Alternatives o value) ∷ j)
+sound_alternatives j o value sound = record {
+  counted = sound.counted;
+  not_ended = sound.not_ended;
+  attempts_apart = sound.attempts_apart;
+  requests_apart = sound.requests_apart;
+  newest = sound.newest;
+  connections_apart = sound.connections_apart;
+  ended = sound.ended;
+  out_stands = sound.out_stands;
+  out_known = sound.out_known;
+  unused = sound.unused;
+}
+
+pub sound_field : (j : Journal) (q reason place : ℕ) → Sound j → Sound (Taken (Field q reason place) ∷ j)
+sound_field j q reason place sound = record {
+  counted = sound.counted;
+  not_ended = sound.not_ended;
+  attempts_apart = sound.attempts_apart;
+  requests_apart = sound.requests_apart;
+  newest = sound.newest;
+  connections_apart = sound.connections_apart;
+  ended = sound.ended;
+  out_stands = sound.out_stands;
+  out_known = sound.out_known;
+  unused = sound.unused;
+}
 
 -- facts
 
@@ -335,10 +365,29 @@ sound_closed j now c handed_in is_open_now sound = record {
     by_test n h false e = (sound.unused n h).2
     by_test n h true e = contradicts (has_ended j c) used (ap (has_ended j) (same_number c n e) ∙ h)
 
+-- a request that is answered isn't outstanding any more
+pub sound_response : (j : Journal) (now q status age : ℕ) (altsvc : Option (List ℕ)) (handed_in : Bool) → Sound j → Sound (Happened now (fact.Response q status age altsvc) handed_in ∷ j)
+sound_response j now q status age altsvc handed_in sound =
+    let lost : Sound (Taken (Lost q) ∷ j) = sound_lost j q sound in
+    record {
+      counted = sound.counted;
+      not_ended = sound.not_ended;
+      attempts_apart = sound.attempts_apart;
+      requests_apart = sound.requests_apart;
+      newest = sound.newest;
+      connections_apart = sound.connections_apart;
+      ended = sound.ended;
+      out_stands = lost.out_stands;
+      out_known = lost.out_known;
+      unused = lost.unused;
+    }
+
 -- each fact that isn't refused
 pub sound_fact : (j : Journal) (now : ℕ) (fact : Fact) → refusal j now fact ≡ None → Sound j → Sound (Happened now fact true ∷ j)
 sound_fact j now (fact.Request n o) free sound = sound_request j now n o true (above_newest j now n o free) sound
 sound_fact j now (fact.Opened m p d port names) free sound = sound_opened j now m p d port names true (opened_pending j now m p d port names free) sound
 sound_fact j now (fact.Failed m) free sound = sound_failed j now m true (failed_pending j now m free) sound
 sound_fact j now (fact.Closed c) free sound = sound_closed j now c true (closed_open j now c free) sound
+sound_fact j now (fact.Response q status age altsvc) free sound = sound_response j now q status age altsvc true sound
+sound_fact j now fact.Network free sound = record { counted = sound.counted; not_ended = sound.not_ended; attempts_apart = sound.attempts_apart; requests_apart = sound.requests_apart; newest = sound.newest; connections_apart = sound.connections_apart; ended = sound.ended; out_stands = sound.out_stands; out_known = sound.out_known; unused = sound.unused }
 sound_fact j now fact.Tick free sound = record { counted = sound.counted; not_ended = sound.not_ended; attempts_apart = sound.attempts_apart; requests_apart = sound.requests_apart; newest = sound.newest; connections_apart = sound.connections_apart; ended = sound.ended; out_stands = sound.out_stands; out_known = sound.out_known; unused = sound.unused }

@@ -1,5 +1,8 @@
 -- Which connection is authoritative for an origin (RFC 9110 4.3; RFC 9113 9.1.1; RFC 8336 2.4).
-use Rattle.std.specs.Prelude.{ℕ, Bool, true, false, not, ◌&&◌, ◌||◌, nat_eq, if◌then◌else◌}
+use Rattle.std.specs.Prelude.{ℕ, Bool, true, false, not, ◌&&◌, ◌||◌, nat_eq, List, [], ◌∷◌, codes, if◌then◌else◌}
+use Rattle.std.specs.Cmp.Lexicographic.{pointwise}
+use Rattle.altsvc_grammar.specs.Keys.{key_eq}
+use Rattle.altsvc_grammar.specs.declared.alt.Alt.{Alt}
 use Rattle.coalescing.specs.Covers.{covers}
 use Rattle.origin_values.specs.Equality.{origin_eq, host_eq}
 use Rattle.origin_values.specs.declared.scheme.Scheme.{Scheme}
@@ -13,19 +16,34 @@ use Rattle.origin_values.specs.declared.protos.Protos.{Protos}
 use Rattle.origin_values.specs.declared.proto.Proto.{Proto}
 use Rattle.origin_values.specs.declared.proto.Proto.TheVariants.{H2, H3, Http11, Other}
 use Rattle.route_events.specs.declared.route.Route.{Route}
-use Rattle.route_events.specs.declared.route.Route.TheVariants.{Direct}
+use Rattle.route_events.specs.declared.route.Route.TheVariants as route
 use Rattle.route_events.specs.declared.connection.Connection.{Connection}
-use Rattle.route_events.specs.Journal.{Journal}
+use Rattle.route_events.specs.declared.fact.Fact.TheVariants as fact
+use Rattle.route_events.specs.declared.action.Action.TheVariants as action
+use Rattle.route_events.specs.Journal.{Happened, Taken, Journal}
 use Rattle.route_events.specs.Connections.{is_open}
+use Rattle.route_events.specs.Alternatives.{alternatives_of, is_listed, live}
+
+-- two routes are one: the direct one, or by alternatives of one key
+abbrev pub route_eq : Route → Route → Bool
+route_eq route.Direct route.Direct = true
+route_eq route.Direct (route.Alt b) = false
+route_eq (route.Alt a) route.Direct = false
+route_eq (route.Alt a) (route.Alt b) = key_eq a b
 
 abbrev pub is_https : Scheme → Bool
 is_https Http = false
 is_https Https = true
 
--- the protocols of a route
+-- the protocol of an ALPN identifier (RFC 7301 6), none where it isn't a supported one
+abbrev pub named : List ℕ → Protos
+named id = record { h2 = pointwise nat_eq id (codes "h2"); h3 = pointwise nat_eq id (codes "h3"); http11 = pointwise nat_eq id (codes "http/1.1") }
+
+-- the protocols of a route: of an alternative its own
 abbrev pub protocols : Scheme → Route → Protos
-protocols Http Direct = record { h2 = false; h3 = false; http11 = true }
-protocols Https Direct = record { h2 = true; h3 = false; http11 = true }
+protocols Http route.Direct = record { h2 = false; h3 = false; http11 = true }
+protocols Https route.Direct = record { h2 = true; h3 = false; http11 = true }
+protocols scheme (route.Alt key) = named key.proto
 
 abbrev pub is_among : Protos → Proto → Bool
 is_among protos H2 = protos.h2
@@ -42,16 +60,28 @@ is_tls c = is_https c.origin.scheme
 abbrev pub is_success : Connection → Bool
 is_success c = is_among (protocols c.origin.scheme c.route) c.proto && (not (is_tls c) || covers c.names c.origin.host)
 
--- what a route rests on still stands: nothing, for the direct one
-abbrev pub is_upheld : Journal → Connection → Route → Bool
-is_upheld journal c Direct = true
+-- some alternatives give a route: the direct one needs none, one by an alternative has to be listed
+abbrev pub gives : List Alt → Route → Bool
+gives alts route.Direct = true
+gives alts (route.Alt key) = is_listed alts key
+
+-- what the route of a connection rests on still stands: it was live when the connection opened, and every value that was
+-- taken for the origin since lists it (RFC 7838 2.4). That an alternative isn't fresh any more, or that the network
+-- changed, ends nothing.
+abbrev pub is_upheld : Journal → Connection → Bool
+is_upheld [] c = false
+is_upheld (Happened moment (fact.Opened attempt proto addr port names) handed_in ∷ older) c =
+    if nat_eq attempt c.number then gives (live older c.origin moment) c.route else is_upheld older c
+is_upheld (Happened moment _ handed_in ∷ older) c = is_upheld older c
+is_upheld (Taken (action.Alternatives o value) ∷ older) c =
+    (not (origin_eq o c.origin) || gives (alternatives_of value) c.route) && is_upheld older c
+is_upheld (Taken _ ∷ older) c = is_upheld older c
 
 -- a connection has a basis for the origin that it was opened for
 abbrev pub has_basis : Journal → Connection → Origin → ℕ → Bool
-has_basis journal c o now = origin_eq c.origin o && (is_success c && is_upheld journal c c.route)
+has_basis journal c o now = origin_eq c.origin o && (is_success c && is_upheld journal c)
 
--- a 421 took the origin away, and no ORIGIN frame gave it back (RFC 9110 15.5.20, RFC 8336 2.3). No response is read
--- yet.
+-- a 421 took the origin away, and no ORIGIN frame gave it back (RFC 9110 15.5.20, RFC 8336 2.3). No 421 is read yet.
 abbrev pub is_misdirected : Journal → Connection → Origin → Bool
 is_misdirected journal c o = false
 

@@ -48,10 +48,19 @@ is_open_number journal number = is_some (find (λ (c : Connection). nat_eq c.num
 abbrev pub without : ℕ → List ℕ → List ℕ
 without number numbers = filter (λ n. not (nat_eq n number)) numbers
 
+-- the request that a fact answers
+abbrev pub answered_in : Fact → Option ℕ
+answered_in (fact.Response request status age altsvc) = Some request
+answered_in _ = None
+
+abbrev pub without_any : Option ℕ → List ℕ → List ℕ
+without_any None numbers = numbers
+without_any (Some number) numbers = without number numbers
+
 -- the requests that are outstanding on a connection, in the order of their sends
 abbrev pub outstanding : Journal → ℕ → List ℕ
 outstanding [] conn = []
-outstanding (Happened moment fact handed_in ∷ older) conn = outstanding older conn
+outstanding (Happened moment fact handed_in ∷ older) conn = without_any (answered_in fact) (outstanding older conn)
 outstanding (Taken (action.SendOn request to stream alt_used) ∷ older) conn = if nat_eq to conn then outstanding older conn ++ request ∷ [] else outstanding older conn
 outstanding (Taken (action.Lost request) ∷ older) conn = without request (outstanding older conn)
 outstanding (Taken _ ∷ older) conn = outstanding older conn

@@ -9,14 +9,16 @@ use Rattle.origin_values.specs.declared.proto.Proto.TheVariants.{H2, H3, Http11,
 use Rattle.route_events.specs.declared.action.Action.{Action}
 use Rattle.route_events.specs.declared.action.Action.TheVariants as action
 use Rattle.route_events.specs.declared.route.Route.{Route}
-use Rattle.route_events.specs.declared.route.Route.TheVariants.{Direct}
+use Rattle.route_events.specs.declared.route.Route.TheVariants.{Direct, Alt}
 use Rattle.route_events.specs.declared.connection.Connection.{Connection}
 use Rattle.route_events.specs.declared.request.Request.{Request}
 use Rattle.route_events.specs.Journal.{Journal}
 use Rattle.route_events.specs.Attempts.{next_attempt}
 use Rattle.route_events.specs.Connections.{connections, open_connections, send_count, is_busy}
-use Rattle.route_events.specs.Authority.{is_authoritative, has_basis}
-use Rattle.route_events.specs.Routes.{route_eq, live, is_broken, usable_routes, has_pending}
+use Rattle.route_events.specs.Alternatives.{live}
+use Rattle.route_events.specs.Authority.{route_eq, is_authoritative, has_basis}
+use Rattle.route_events.specs.Backoff.{is_broken}
+use Rattle.route_events.specs.Routes.{by_alternatives, usable_routes, has_pending}
 
 -- the connections that are authoritative for an origin, in the order of their opening, and those that aren't busy
 abbrev pub carriers : Journal → Origin → ℕ → List Connection
@@ -35,6 +37,7 @@ or_else (Some x) other = Some x
 
 abbrev pub is_by_alternative : Route → Bool
 is_by_alternative Direct = false
+is_by_alternative (Alt key) = true
 
 -- the best of some connections: one with a basis by an alternative, else one with another basis, else any; among
 -- equals the one that was opened earliest
@@ -50,12 +53,24 @@ stream_after H3 sends = None
 stream_after Http11 sends = None
 stream_after Other sends = None
 
--- the host and port of the alternative that carries a send (RFC 7838 5)
-abbrev pub alt_used : Route → Origin → Option (Host × ℕ)
-alt_used Direct o = None
+-- the host and port that a route by an alternative goes to: the alternative's host, or the origin's own
+abbrev pub host_or : Option Host → Host → Host
+host_or None own = own
+host_or (Some host) own = host
 
-abbrev pub send : Journal → Request → Connection → Action
-send journal q c = action.SendOn q.number c.number (stream_after c.proto (send_count journal c.number)) (alt_used c.route q.origin)
+abbrev pub alternative_used : Route → Origin → Option (Host × ℕ)
+alternative_used Direct o = None
+alternative_used (Alt key) o = Some (host_or key.host o.host, key.port)
+
+-- what a send tells the server of the alternative that carries it (RFC 7838 5), where the connection has a basis for the
+-- origin by one
+abbrev pub alt_used : Bool → Route → Origin → Option (Host × ℕ)
+alt_used true route o = alternative_used route o
+alt_used false route o = None
+
+abbrev pub send : Journal → Request → ℕ → Connection → Action
+send journal q now c =
+    action.SendOn q.number c.number (stream_after c.proto (send_count journal c.number)) (alt_used (has_basis journal c q.origin now) c.route q.origin)
 
 abbrev pub opening : Journal → Origin → Route → Action
 opening journal o r = action.OpenTo (next_attempt journal) o r
@@ -66,7 +81,7 @@ is_in_use journal o r = list_any (λ (c : Connection). origin_eq c.origin o && r
 
 -- the first live alternative that is supported and not broken
 abbrev pub first_alternative : Journal → Origin → ℕ → Option Route
-first_alternative journal o now = find (λ r. not (is_broken journal o r now)) (live journal o now)
+first_alternative journal o now = find (λ r. not (is_broken journal o r now)) (by_alternatives (live journal o now))
 
 -- it is opened beside a send, where it isn't in use
 abbrev pub opened_beside : Journal → Origin → Option Route → List Action
@@ -75,15 +90,15 @@ opened_beside journal o (Some r) = if is_in_use journal o r then [] else opening
 
 -- what is done for a request, by the best free connection, whether a usable route is pending, the usable routes, and
 -- the authoritative connections, which are all busy where none is free
-abbrev pub decide : Journal → Request → Option Route → Option Connection → Bool → List Route → List Connection → List Action
-decide journal q beside (Some c) pending usable busy = send journal q c ∷ opened_beside journal q.origin beside
-decide journal q beside None true usable busy = []
-decide journal q beside None false (r ∷ usable) busy = opening journal q.origin r ∷ []
-decide journal q beside None false [] (c ∷ busy) = []
-decide journal q beside None false [] [] = action.Refuse q.number ∷ []
+abbrev pub decide : Journal → Request → ℕ → Option Route → Option Connection → Bool → List Route → List Connection → List Action
+decide journal q now beside (Some c) pending usable busy = send journal q now c ∷ opened_beside journal q.origin beside
+decide journal q now beside None true usable busy = []
+decide journal q now beside None false (r ∷ usable) busy = opening journal q.origin r ∷ []
+decide journal q now beside None false [] (c ∷ busy) = []
+decide journal q now beside None false [] [] = action.Refuse q.number ∷ []
 
 abbrev pub dispatch : Journal → Request → ℕ → List Action
 dispatch journal q now =
-    decide journal q (first_alternative journal q.origin now) (best journal q.origin now (free_carriers journal q.origin now))
+    decide journal q now (first_alternative journal q.origin now) (best journal q.origin now (free_carriers journal q.origin now))
     (list_any (has_pending journal q.origin) (usable_routes journal q now))
     (usable_routes journal q now) (carriers journal q.origin now)

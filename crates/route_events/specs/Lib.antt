@@ -2,9 +2,13 @@ pub mod Journal
 pub mod Attempts
 pub mod Requests
 pub mod Connections
+pub mod Alternatives
 pub mod Authority
+pub mod Backoff
 pub mod Routes
 pub mod Dispatch
+pub mod Advertisements
 pub mod Step
 pub mod Headline
 pub mod WorkedHistories
+pub mod WorkedAlternatives

@@ -34,6 +34,7 @@ pub data Standing : Type 0 where
 -- a fact, or an action, that moves a request of a number
 abbrev pub moved_by_fact : Fact → Option (ℕ × Standing)
 moved_by_fact (fact.Request number origin) = Some (number, Waits)
+moved_by_fact (fact.Response request status age altsvc) = Some (request, Over)
 moved_by_fact _ = None
 
 abbrev pub moved_by_action : Action → Option (ℕ × Standing)
@@ -59,3 +60,9 @@ waits (Some Over) = false
 -- the requests that wait, in the order of their arrival
 abbrev pub waiting : Journal → List Request
 waiting journal = filter (λ (q : Request). waits (standing journal q.number)) (requests journal)
+
+abbrev pub is_out : Option Standing → Bool
+is_out None = false
+is_out (Some Waits) = false
+is_out (Some (OutOn conn)) = true
+is_out (Some Over) = false

@@ -1,23 +1,26 @@
--- The routes to an origin, and which of them a request may take.
-use Rattle.std.specs.Prelude.{ℕ, Bool, true, false, not, ◌&&◌, ◌||◌, nat_eq, List, [], ◌∷◌, ◌++◌, if◌then◌else◌, filter}
+-- The routes to an origin, and which of them a request may take (RFC 7838 2, RFC 9460 3).
+use Rattle.std.specs.Prelude.{ℕ, Bool, false, not, ◌&&◌, ◌||◌, nat_eq, List, [], ◌∷◌, ◌++◌, if◌then◌else◌, map, filter}
 use Rattle.std.specs.Option.{option_map_or}
 use Rattle.std.specs.List.{list_any}
-use Rattle.origin_values.specs.Equality.{origin_eq}
 use Rattle.origin_values.specs.declared.origin.Origin.{Origin}
+use Rattle.altsvc_grammar.specs.declared.alt.Alt.{Alt}
 use Rattle.route_events.specs.declared.route.Route.{Route}
-use Rattle.route_events.specs.declared.route.Route.TheVariants.{Direct}
-use Rattle.route_events.specs.declared.attempt.Attempt.{Attempt}
+use Rattle.route_events.specs.declared.route.Route.TheVariants as route
 use Rattle.route_events.specs.declared.request.Request.{Request}
 use Rattle.route_events.specs.Journal.{Entry, Journal, of_fact}
-use Rattle.route_events.specs.Attempts.{ended_in, pending, pending_attempt}
+use Rattle.route_events.specs.Alternatives.{live}
+use Rattle.route_events.specs.Attempts.{ended_in, pending}
+use Rattle.route_events.specs.Authority.{named}
+use Rattle.route_events.specs.Backoff.{is_on, is_attempt_on, is_broken}
 use Rattle.route_events.specs.Requests.{request_in}
 
-abbrev pub route_eq : Route → Route → Bool
-route_eq Direct Direct = true
+-- an alternative has a supported protocol
+abbrev pub is_supported : Alt → Bool
+is_supported a = (named a.key.proto).h2 || ((named a.key.proto).h3 || (named a.key.proto).http11)
 
--- the routes of the live alternatives of a supported protocol, in list order (RFC 7838 2). No alternative is read yet.
-abbrev pub live : Journal → Origin → ℕ → List Route
-live journal o now = []
+-- the routes by some alternatives, in list order
+abbrev pub by_alternatives : List Alt → List Route
+by_alternatives alts = map (λ (a : Alt). route.Alt a.key) (filter is_supported alts)
 
 -- the routes of the endpoints of the origin's records (RFC 9460 3). No DNS answer is read yet.
 abbrev pub endpoints : Journal → Origin → ℕ → List Route
@@ -25,19 +28,11 @@ endpoints journal o now = []
 
 -- the routes of an origin, in order
 abbrev pub routes : Journal → Origin → ℕ → List Route
-routes journal o now = live journal o now ++ endpoints journal o now ++ Direct ∷ []
-
--- failures bar a route for a while, but never the direct one
-abbrev pub is_broken : Journal → Origin → Route → ℕ → Bool
-is_broken journal o Direct now = false
-
--- an attempt is for this origin by this route
-abbrev pub is_on : Origin → Route → Attempt → Bool
-is_on o r a = origin_eq a.origin o && route_eq a.route r
+routes journal o now = by_alternatives (live journal o now) ++ endpoints journal o now ++ route.Direct ∷ []
 
 -- an entry ends a pending attempt for the origin by the route
 abbrev pub ends_on : Journal → Origin → Route → Entry → Bool
-ends_on older o r entry = option_map_or (λ ended. option_map_or (is_on o r) (pending_attempt older ended) false) (of_fact ended_in entry) false
+ends_on older o r entry = option_map_or (is_attempt_on older o r) (of_fact ended_in entry) false
 
 -- an entry is the arrival of the request of a number
 abbrev pub is_arrival : ℕ → Entry → Bool

@@ -5,12 +5,13 @@ use Rattle.route_events.specs.declared.fact.Fact.TheVariants as fact
 use Rattle.route_events.specs.declared.action.Action.{Action}
 use Rattle.route_events.specs.declared.action.Action.TheVariants as action
 use Rattle.route_events.specs.declared.refusal.StepRefusal.{StepRefusal}
-use Rattle.route_events.specs.declared.refusal.StepRefusal.TheVariants.{Spent, TimeBack, NumberNotAbove, NoSuchAttempt, NoSuchConn}
+use Rattle.route_events.specs.declared.refusal.StepRefusal.TheVariants.{Spent, TimeBack, NumberNotAbove, NoSuchAttempt, NoSuchConn, NoSuchRequest}
 use Rattle.route_events.specs.declared.request.Request.{Request}
 use Rattle.route_events.specs.Journal.{Happened, Taken, Journal, step_count, newest_moment}
 use Rattle.route_events.specs.Attempts.{is_pending}
-use Rattle.route_events.specs.Requests.{newest_number, waiting}
+use Rattle.route_events.specs.Requests.{newest_number, standing, is_out, waiting}
 use Rattle.route_events.specs.Connections.{is_open_number, outstanding}
+use Rattle.route_events.specs.Advertisements.{answer_effects}
 use Rattle.route_events.specs.Dispatch.{dispatch}
 
 -- why a fact isn't taken, by the fact alone
@@ -19,6 +20,8 @@ fact_refusal journal (fact.Request number origin) = if nat_le number (newest_num
 fact_refusal journal (fact.Opened attempt proto addr port names) = if is_pending journal attempt then None else Some NoSuchAttempt
 fact_refusal journal (fact.Failed attempt) = if is_pending journal attempt then None else Some NoSuchAttempt
 fact_refusal journal (fact.Closed conn) = if is_open_number journal conn then None else Some NoSuchConn
+fact_refusal journal (fact.Response request status age altsvc) = if is_out (standing journal request) then None else Some NoSuchRequest
+fact_refusal journal fact.Network = None
 fact_refusal journal fact.Tick = None
 
 -- the first reason why a step isn't taken: too many steps, a moment that goes back, the fact
@@ -33,10 +36,12 @@ abbrev pub with_actions : Journal → List Action → Journal
 with_actions journal [] = journal
 with_actions journal (a ∷ as') = with_actions (Taken a ∷ journal) as'
 
--- the effect of a fact, in the journal below it: what was outstanding on a connection that ends is lost
-abbrev pub effects : Journal → Fact → List Action
-effects older (fact.Closed conn) = map action.Lost (outstanding older conn)
-effects older _ = []
+-- the effect of a fact, in the journal below it: what was outstanding on a connection that ends is lost, and the Alt-Svc
+-- of a response is taken or not
+abbrev pub effects : Journal → ℕ → Fact → List Action
+effects older now (fact.Closed conn) = map action.Lost (outstanding older conn)
+effects older now (fact.Response request status age altsvc) = answer_effects older now request status altsvc
+effects older now _ = []
 
 -- each waiting request is dispatched once, in the order of arrival, each in the journal so far
 abbrev pub settle : Journal → ℕ → List Request → Journal
@@ -48,7 +53,7 @@ settled journal now = settle journal now (waiting journal)
 
 -- the journal with a fact and its effect
 abbrev pub with_fact : Journal → ℕ → Fact → Journal
-with_fact journal now fact = with_actions (Happened now fact true ∷ journal) (effects journal fact)
+with_fact journal now fact = with_actions (Happened now fact true ∷ journal) (effects journal now fact)
 
 -- the journal after a step
 abbrev pub step : Journal → ℕ → Fact → Journal

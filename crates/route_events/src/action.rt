@@ -1,5 +1,6 @@
 use crate::Route;
 use alt_base::{Duplicate, ListOf, NoMemory};
+use altsvc_grammar::AltSvc;
 use origin_values::{Host, Origin};
 use std::alloc::Global;
 
@@ -28,6 +29,19 @@ pub enum Action {
     Lost {
         request: u32,
     },
+    /// A value of Alt-Svc was taken: from now on it is all that is known of the origin's alternatives (RFC 7838 3).
+    Alternatives {
+        origin: Origin,
+        value: AltSvc,
+    },
+    /// The Alt-Svc of a response wasn't taken, for this reason: 1 to 9 where it is no value, as `AltRefusal` numbers
+    /// them, with the place; 11 where the response is a 421 (RFC 7838 6), 12 where the origin is of http, and 13 where
+    /// the connection isn't authoritative for the origin, all three with place 0.
+    Field {
+        request: u32,
+        reason: u8,
+        place: u32,
+    },
 }
 
 /// Actions in order.
@@ -43,7 +57,7 @@ impl Duplicate for Action {
             } => Ok(Action::OpenTo {
                 attempt: *attempt,
                 origin: origin.copy(alloc)?,
-                route: *route,
+                route: route.copy(alloc)?,
             }),
             Action::SendOn {
                 request,
@@ -61,6 +75,19 @@ impl Duplicate for Action {
             }),
             Action::Refuse { request } => Ok(Action::Refuse { request: *request }),
             Action::Lost { request } => Ok(Action::Lost { request: *request }),
+            Action::Alternatives { origin, value } => Ok(Action::Alternatives {
+                origin: origin.copy(alloc)?,
+                value: value.copy(alloc)?,
+            }),
+            Action::Field {
+                request,
+                reason,
+                place,
+            } => Ok(Action::Field {
+                request: *request,
+                reason: *reason,
+                place: *place,
+            }),
         }
     }
 }

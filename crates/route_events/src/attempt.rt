@@ -16,7 +16,7 @@ impl Duplicate for Attempt {
         Ok(Attempt {
             number: self.number,
             origin: self.origin.copy(alloc)?,
-            route: self.route,
+            route: self.route.copy(alloc)?,
         })
     }
 }

@@ -23,7 +23,7 @@ impl Duplicate for Connection {
         Ok(Connection {
             number: self.number,
             origin: self.origin.copy(alloc)?,
-            route: self.route,
+            route: self.route.copy(alloc)?,
             proto: self.proto,
             addr: self.addr,
             port: self.port,

@@ -1,4 +1,4 @@
-use alt_base::{Duplicate, NoMemory};
+use alt_base::{Bytes, Duplicate, NoMemory};
 use coalescing::CertNames;
 use origin_values::{Addr, Origin, Proto};
 use std::alloc::Global;
@@ -28,6 +28,17 @@ pub enum Fact {
     Closed {
         conn: u64,
     },
+    /// The final response to a request came: its status (RFC 9110 15), the seconds that its Age field tells
+    /// (RFC 9111 5.1), 0 where there is none, and the value of its Alt-Svc field (RFC 7838 3), if there is one. A value has
+    /// at most 65,536 bytes.
+    Response {
+        request: u32,
+        status: u16,
+        age: u32,
+        altsvc: Option<Bytes>,
+    },
+    /// The network changed: the client reaches the world by other ways than before.
+    Network,
     /// Nothing but that time has come this far.
     Tick,
 }
@@ -54,6 +65,21 @@ impl Duplicate for Fact {
             }),
             Fact::Failed { attempt } => Ok(Fact::Failed { attempt: *attempt }),
             Fact::Closed { conn } => Ok(Fact::Closed { conn: *conn }),
+            Fact::Response {
+                request,
+                status,
+                age,
+                altsvc,
+            } => Ok(Fact::Response {
+                request: *request,
+                status: *status,
+                age: *age,
+                altsvc: match altsvc {
+                    None => None,
+                    Some(value) => Some(value.copy(alloc)?),
+                },
+            }),
+            Fact::Network => Ok(Fact::Network),
             Fact::Tick => Ok(Fact::Tick),
         }
     }

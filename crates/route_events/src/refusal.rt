@@ -13,4 +13,6 @@ pub enum StepRefusal {
     NoSuchAttempt,
     /// A connection that isn't open can't end.
     NoSuchConn,
+    /// A request that isn't outstanding can't be answered.
+    NoSuchRequest,
 }
