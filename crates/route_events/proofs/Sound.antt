@@ -196,7 +196,7 @@ sound_field j q reason place sound = record {
 -- facts
 
 -- what a fact that isn't refused meets
-not_earlier : (b : Bool) (reason : StepRefusal) (other : Option StepRefusal) → cond b (Some reason) other ≡ None → other ≡ None
+pub not_earlier : (b : Bool) (reason : StepRefusal) (other : Option StepRefusal) → cond b (Some reason) other ≡ None → other ≡ None
 not_earlier true reason other free = absurd (true≢false (ap is_some free))
 not_earlier false reason other free = free
 

@@ -1,5 +1,5 @@
 -- The effect of a fact on what a router keeps is its effect on the journal.
-use Rattle.std.proofs.Common.{◌≡◌, inl, inr, ℕ, ◌<◌, Bool, true, false, cond, not, ◌&&◌, ◌||◌, nat_eq, List, [], ◌∷◌, ◌++◌, map, filter, Option, Some, None, refl, ap, sym, ◌∙◌, subst, arith, true≢false}
+use Rattle.std.proofs.Common.{◌≡◌, inl, inr, ℕ, ◌<◌, ◌≤◌, Bool, true, false, cond, not, ◌&&◌, ◌||◌, nat_eq, List, [], ◌∷◌, ◌++◌, map, filter, find, Option, Some, None, is_some, refl, ap, sym, ◌∙◌, subst, arith, true≢false}
 use Rattle.std.specs.Option.{option_map, option_map_or}
 use Rattle.std.specs.List.{list_any}
 use Rattle.std.proofs.lemmas.List.Folds.{list_any-append}
@@ -12,18 +12,21 @@ use Rattle.route_events.specs.declared.fact.Fact.{Fact}
 use Rattle.route_events.specs.declared.fact.Fact.TheVariants as fact
 use Rattle.route_events.specs.declared.action.Action.TheVariants.{Lost}
 use Rattle.route_events.specs.declared.route.Route.{Route}
-use Rattle.route_events.specs.declared.route.Route.TheVariants.{Direct}
 use Rattle.route_events.specs.declared.request.Request.{Request}
 use Rattle.route_events.specs.declared.attempt.Attempt.{Attempt}
 use Rattle.route_events.specs.declared.connection.Connection.{Connection}
 use Rattle.route_events.specs.Journal.{Happened, Taken, Journal}
 use Rattle.route_events.specs.Attempts.{attempts, has_ended, pending, pending_attempt}
-use Rattle.route_events.specs.Requests.{Standing, OutOn, Over, requests, newest_number, standing, waits, waiting}
-use Rattle.route_events.specs.Connections.{connections, closes, is_open, open_connections, is_open_number, outstanding, without}
-use Rattle.route_events.specs.Authority.{is_success, is_upheld}
-use Rattle.route_events.specs.Routes.{route_eq, was_tried}
+use Rattle.route_events.specs.Requests.{Standing, Waits, OutOn, Over, requests, request_of, newest_number, standing, waits, is_out, waiting}
+use Rattle.route_events.specs.Advertisements.{is_one_of}
+use Rattle.route_events.specs.Dispatch.{or_else}
+use Rattle.route_events.specs.Connections.{connections, closes, is_open, open_connections, is_open_number, outstanding, send_count, without}
+use Rattle.altsvc_grammar.specs.declared.alt.Alt.{Alt}
+use Rattle.route_events.specs.Alternatives.{live}
+use Rattle.route_events.specs.Authority.{route_eq, is_success, gives, is_upheld}
+use Rattle.route_events.specs.Routes.{was_tried}
 use Rattle.route_events.specs.Step.{with_actions}
-use Rattle.route_events.proofs.Lists.{IsIn, nat_eq-self, nat_eq-flip, nat_eq-below, same_number, in_filter, filter_same, filter_same_in, filter_end, filter_twice, not_true}
+use Rattle.route_events.proofs.Lists.{IsIn, nat_eq-self, nat_eq-flip, nat_eq-below, same_number, in_filter, filter_same, filter_same_in, filter_end, filter_twice, find_in, not_true}
 use Rattle.route_events.proofs.Sound.{Sound, opened_of}
 use Rattle.router_core.specs.declared.open_connection.OpenConnection.{OpenConnection}
 use Rattle.router_core.specs.declared.tables.Tables.{Tables}
@@ -31,9 +34,10 @@ use Rattle.router_core.specs.declared.waiting.Waiting.{Waiting}
 use Rattle.router_core.specs.OpenConnections.{kept_of}
 use Rattle.router_core.specs.WaitingRequests.{is_tried, tried_after, AreTried}
 use Rattle.router_core.specs.Tables.{Hold}
+use Rattle.router_core.specs.SentRequests.{request_among, without_all, AreSent}
 use Rattle.router_core.specs.StepStates.{other_attempts, made_of, begun_of, connection_among, other_connections, out_on}
 use Rattle.router_core.specs.StandsFor.{requests_of}
-use Rattle.router_core.proofs.Listing.{map_append, map_same_in, filter_map, find_map}
+use Rattle.router_core.proofs.Listing.{map_append, map_same_in, filter_map, find_map, find_append}
 use Rattle.router_core.proofs.Applying.{tried_taken, tried_append}
 
 or_not : (a b : Bool) → not (a || b) ≡ (not b && not a)
@@ -134,40 +138,63 @@ hold_ended t j now m hold = record {
 
 -- a connection is made
 
-upheld : (j : Journal) (c : Connection) (r : Route) → is_upheld j c r ≡ true
-upheld j c Direct = refl
-
-and_true : (b : Bool) → (b && true) ≡ b
-and_true true = refl
-and_true false = refl
-
 -- a new connection, as the router keeps it
-pub begun_is : (j : Journal) (c : Connection) → Sound j → has_ended j c.number ≡ false → begun_of c ≡ kept_of j c
-begun_is j c sound fresh =
-    let unused = sound.unused c.number fresh in
-    λ i. record { made = c; bound = (sym (and_true (is_success c)) ∙ ap (λ b. is_success c && b) (sym (upheld j c c.route))) i; outstanding = sym unused.0 i; sends = sym unused.1 i }
+begun_is : (live_now : Origin → List Alt) (j : Journal) (now m : ℕ) (c : Connection) (p : Proto) (d : Addr) (port : ℕ) (names : List CertName) → c.number ≡ m → Sound j → has_ended j m ≡ false → ((o : Origin) → live_now o ≡ live j o now) →
+    begun_of live_now c ≡ kept_of (Happened now (fact.Opened m p d port names) true ∷ j) c
+begun_is live_now j now m c p d port names numbered sound fresh sees =
+    λ i. record { made = c; bound = is_success c && bound_now i; outstanding = none i; sends = never i }
+  where
+    own : nat_eq m c.number ≡ true
+    own = ap (λ n. nat_eq m n) numbered ∙ nat_eq-self m
 
-pub hold_opened : (t : Tables) (j : Journal) (now m : ℕ) (a : Attempt) (p : Proto) (d : Addr) (port : ℕ) (names : List CertName) → Sound j → pending_attempt j m ≡ Some a → a.number ≡ m → has_ended j m ≡ false → Hold t j →
-    Hold (record { opened = t.opened; pending = other_attempts t.pending a.number; connections = t.connections ++ begun_of (made_of a p d port names) ∷ [] }) (Happened now (fact.Opened m p d port names) true ∷ j)
-hold_opened t j now m a p d port names sound found numbered fresh hold = record {
+    bound_now : gives (live_now c.origin) c.route ≡ cond (nat_eq m c.number) (gives (live j c.origin now) c.route) (is_upheld j c)
+    bound_now = ap (λ alts. gives alts c.route) (sees c.origin) ∙ ap (λ b. cond b (gives (live j c.origin now) c.route) (is_upheld j c)) (sym own)
+
+    none : [] ≡ outstanding j c.number
+    none = sym (sound.unused m fresh).0 ∙ ap (outstanding j) (sym numbered)
+
+    never : 0 ≡ send_count j c.number
+    never = sym (sound.unused m fresh).1 ∙ ap (send_count j) (sym numbered)
+
+-- the other connections keep their ground
+others_kept : (j : Journal) (now m : ℕ) (p : Proto) (d : Addr) (port : ℕ) (names : List CertName) → Sound j → has_ended j m ≡ false → map (kept_of j) (open_connections j) ≡ map (kept_of (Happened now (fact.Opened m p d port names) true ∷ j)) (open_connections j)
+others_kept j now m p d port names sound fresh =
+    map_same_in (kept_of j) (kept_of (Happened now (fact.Opened m p d port names) true ∷ j)) (open_connections j) (λ x found. same x (other x (in_filter (is_open j) x (connections j) found).0))
+  where
+    other : (x : Connection) → IsIn x (connections j) → nat_eq m x.number ≡ false
+    other x found = by_test (nat_eq m x.number) refl
+      where
+        by_test : (b : Bool) → nat_eq m x.number ≡ b → b ≡ false
+        by_test false e = refl
+        by_test true e = absurd (true≢false (sym (sound.ended x found) ∙ ap (has_ended j) (sym (same_number m x.number e)) ∙ fresh))
+
+    same : (x : Connection) → nat_eq m x.number ≡ false → kept_of j x ≡ kept_of (Happened now (fact.Opened m p d port names) true ∷ j) x
+    same x e = λ i. record { made = x; bound = is_success x && cond (sym e i) (gives (live j x.origin now) x.route) (is_upheld j x); outstanding = outstanding j x.number; sends = send_count j x.number }
+
+pub hold_opened : (live_now : Origin → List Alt) (t : Tables) (j : Journal) (now m : ℕ) (a : Attempt) (p : Proto) (d : Addr) (port : ℕ) (names : List CertName) → Sound j → ((o : Origin) → live_now o ≡ live j o now) → pending_attempt j m ≡ Some a → a.number ≡ m → has_ended j m ≡ false → Hold t j →
+    Hold (record { opened = t.opened; pending = other_attempts t.pending a.number; connections = t.connections ++ begun_of live_now (made_of a p d port names) ∷ [] }) (Happened now (fact.Opened m p d port names) true ∷ j)
+hold_opened live_now t j now m a p d port names sound sees found numbered fresh hold = record {
   opened = hold.opened;
   pending = ap (λ as'. other_attempts as' a.number) hold.pending ∙ ap (other_attempts (pending j)) numbered ∙ sym (pending_ended j m);
   connections =
-      (λ i. hold.connections i ++ begun i ∷ [])
-      ∙ sym (map_append (kept_of j) (open_connections j) (c ∷ []))
-      ∙ ap (map (kept_of j)) (sym opened_now);
+      (λ i. (hold.connections ∙ others_kept j now m p d port names sound fresh) i ++ begun i ∷ [])
+      ∙ sym (map_append (kept_of k) (open_connections j) (c ∷ []))
+      ∙ ap (map (kept_of k)) (sym opened_now);
 }
   where
+    k : Journal
+    k = Happened now (fact.Opened m p d port names) true ∷ j
+
     c : Connection
     c = record { number = m; origin = a.origin; route = a.route; proto = p; addr = d; port = port; names = names }
 
-    begun : begun_of (made_of a p d port names) ≡ kept_of j c
-    begun = ap (λ n. begun_of (record { number = n; origin = a.origin; route = a.route; proto = p; addr = d; port = port; names = names })) numbered ∙ begun_is j c sound fresh
+    begun : begun_of live_now (made_of a p d port names) ≡ kept_of k c
+    begun = ap (λ n. begun_of live_now (record { number = n; origin = a.origin; route = a.route; proto = p; addr = d; port = port; names = names })) numbered ∙ begun_is live_now j now m c p d port names refl sound fresh sees
 
     open_now : is_open j c ≡ true
     open_now = ap not (sound.unused m fresh).2
 
-    opened_now : open_connections (Happened now (fact.Opened m p d port names) true ∷ j) ≡ open_connections j ++ c ∷ []
+    opened_now : open_connections k ≡ open_connections j ++ c ∷ []
     opened_now = rw found (filter_end (is_open j) (connections j) c ∙ ap (λ b. open_connections j ++ cond {A = List Connection} b (c ∷ []) []) open_now)
 
 -- a connection ends
@@ -202,7 +229,7 @@ hold_lost t j q nowhere hold = record {
   opened = hold.opened;
   pending = hold.pending;
   connections = hold.connections ∙ map_same_in (kept_of j) (kept_of (Taken (Lost q) ∷ j)) (open_connections j)
-      (λ x found. λ i. record { made = x; bound = is_success x && is_upheld j x x.route; outstanding = sym (without_none q (outstanding j x.number) (nowhere x found)) i; sends = (kept_of j x).sends });
+      (λ x found. λ i. record { made = x; bound = is_success x && is_upheld j x; outstanding = sym (without_none q (outstanding j x.number) (nowhere x found)) i; sends = (kept_of j x).sends });
 }
 
 lost_waits : (q n : ℕ) (w : Option Standing) → (nat_eq q n ≡ true → waits w ≡ false) → waits (option_map_or Some (cond (nat_eq q n) (Some Over) None) w) ≡ waits w
@@ -212,27 +239,101 @@ lost_waits q n w h = by_test (nat_eq q n) h
     by_test true h = sym (h refl)
     by_test false h = refl
 
+-- where one request is over that didn't wait, the same requests wait
+pub waiting_over : (j k : Journal) (q : ℕ) → requests k ≡ requests j → ((n : ℕ) → standing k n ≡ option_map_or Some (cond (nat_eq q n) (Some Over) None) (standing j n)) → waits (standing j q) ≡ false → waiting k ≡ waiting j
+waiting_over j k q same moved h =
+    ap (filter (λ (r : Request). waits (standing k r.number))) same
+    ∙ filter_same (λ (r : Request). waits (standing k r.number)) (λ (r : Request). waits (standing j r.number)) (requests j)
+    (λ r. ap waits (moved r.number) ∙ lost_waits q r.number (standing j r.number) (λ e. subst (λ n. waits (standing j n) ≡ false) (same_number q r.number e) h))
+
 waiting_lost : (j : Journal) (q : ℕ) → waits (standing j q) ≡ false → waiting (Taken (Lost q) ∷ j) ≡ waiting j
-waiting_lost j q h =
-    filter_same (λ (r : Request). waits (standing (Taken (Lost q) ∷ j) r.number)) (λ (r : Request). waits (standing j r.number)) (requests j)
-    (λ r. lost_waits q r.number (standing j r.number) (λ e. subst (λ n. waits (standing j n) ≡ false) (same_number q r.number e) h))
+waiting_lost j q h = waiting_over j (Taken (Lost q) ∷ j) q refl (λ n. refl) h
+
+-- and it is outstanding no more
+
+found_left : (q n : ℕ) (sent : List Request) → request_among (without_all (q ∷ []) sent) n ≡ cond (nat_eq q n) None (request_among sent n)
+found_left q n [] = by_test (nat_eq q n)
+  where
+    by_test : (b : Bool) → None ≡ cond {A = Option Request} b None None
+    by_test true = refl
+    by_test false = refl
+found_left q n (x ∷ xs) = by_tests (nat_eq x.number q) (nat_eq x.number n) (nat_eq q n) refl refl refl (found_left q n xs)
+  where
+    by_tests : (a b c : Bool) → nat_eq x.number q ≡ a → nat_eq x.number n ≡ b → nat_eq q n ≡ c → request_among (without_all (q ∷ []) xs) n ≡ cond c None (request_among xs n) →
+        request_among (cond (not (a || false)) (x ∷ without_all (q ∷ []) xs) (without_all (q ∷ []) xs)) n ≡ cond c None (cond b (Some x) (request_among xs n))
+    by_tests true b true is_q is_n same rest = rest
+    by_tests true true false is_q is_n same rest = absurd (true≢false (sym is_n ∙ ap (λ m. nat_eq m n) (same_number x.number q is_q) ∙ same))
+    by_tests true false false is_q is_n same rest = rest
+    by_tests false true true is_q is_n same rest = absurd (true≢false (sym (nat_eq-self q) ∙ ap (λ m. nat_eq m q) (same_number q n same ∙ sym (same_number x.number n is_n)) ∙ is_q))
+    by_tests false true false is_q is_n same rest = rw is_n refl
+    by_tests false false c is_q is_n same rest = rw is_n rest
+
+pub sent_over : (j k : Journal) (q : ℕ) (sent : List Request) → ((n : ℕ) → request_of k n ≡ request_of j n) → ((n : ℕ) → standing k n ≡ option_map_or Some (cond (nat_eq q n) (Some Over) None) (standing j n)) → AreSent j sent → AreSent k (without_all (q ∷ []) sent)
+sent_over j k q sent same moved are = record {
+  out = λ n. ap is_some (found_left q n sent) ∙ out_by n (nat_eq q n) ∙ ap is_out (sym (moved n));
+  known = λ n x found. same n ∙ known_by n x (nat_eq q n) (sym (found_left q n sent) ∙ found);
+}
+  where
+    out_by : (n : ℕ) (b : Bool) → is_some (cond b None (request_among sent n)) ≡ is_out (option_map_or Some (cond b (Some Over) None) (standing j n))
+    out_by n true = refl
+    out_by n false = are.out n
+
+    known_by : (n : ℕ) (x : Request) (b : Bool) → cond b None (request_among sent n) ≡ Some x → request_of j n ≡ Some x
+    known_by n x true e = absurd (true≢false (sym (ap is_some e)))
+    known_by n x false e = are.known n x e
+
+without_more : (q : ℕ) (qs : List ℕ) (sent : List Request) → without_all qs (without_all (q ∷ []) sent) ≡ without_all (q ∷ qs) sent
+without_more q qs sent =
+    filter_twice (λ (x : Request). not (is_one_of x.number qs)) (λ (x : Request). not (is_one_of x.number (q ∷ []))) sent
+    ∙ filter_same (λ (x : Request). not (is_one_of x.number (q ∷ [])) && not (is_one_of x.number qs)) (λ (x : Request). not (is_one_of x.number (q ∷ qs))) sent (λ x. by_test (nat_eq x.number q) (is_one_of x.number qs))
+  where
+    by_test : (a b : Bool) → (not (a || false) && not b) ≡ not (a || b)
+    by_test true b = refl
+    by_test false b = refl
+
+-- a request that arrives is outstanding nowhere
+pub sent_arrival : (j : Journal) (now n : ℕ) (o : Origin) (sent : List Request) → Sound j → newest_number j < n → AreSent j sent → AreSent (Happened now (fact.Request n o) true ∷ j) sent
+sent_arrival j now n o sent sound above are = record {
+  out = λ m. out_by m (nat_eq n m) refl;
+  known = λ m x found. find_append (λ (r : Request). nat_eq r.number m) (requests j) (q ∷ []) ∙ ap (λ v. or_else v (find (λ (r : Request). nat_eq r.number m) (q ∷ []))) (are.known m x found);
+}
+  where
+    q : Request
+    q = record { number = n; origin = o }
+
+    unknown : (v : Option Request) → request_among sent n ≡ v → is_some v ≡ false
+    unknown None e = refl
+    unknown (Some x) e =
+        let is = find_in (λ (r : Request). nat_eq r.number n) (requests j) x (are.known n x e) in
+        let small : x.number ≤ newest_number j = sound.newest x is.0 in
+        let same : x.number ≡ n = same_number x.number n is.1 in
+        absurd (omega (arith, above, small, same))
+
+    out_by : (m : ℕ) (b : Bool) → nat_eq n m ≡ b → is_some (request_among sent m) ≡ is_out (option_map_or Some (cond b (Some Waits) None) (standing j m))
+    out_by m true e = ap (λ k. is_some (request_among sent k)) (sym (same_number n m e)) ∙ unknown (request_among sent n) refl
+    out_by m false e = are.out m
 
 lost_stays : (j : Journal) (q r : ℕ) → waits (standing j r) ≡ false → waits (standing (Taken (Lost q) ∷ j) r) ≡ false
 lost_stays j q r h = lost_waits q r (standing j r) (λ e. h) ∙ h
 
 -- what losing some requests leaves
-pub record Loses (t : Tables) (j k : Journal) : Type 0 where
+pub record Loses (t : Tables) (j k : Journal) (qs : List ℕ) : Type 0 where
   pub tables : Hold t k
   pub waiting : waiting k ≡ waiting j
+  pub sent : (sent : List Request) → AreSent j sent → AreSent k (without_all qs sent)
   pub tried : (ws : List Waiting) → AreTried j ws → AreTried k ws
 
-pub loses_all : (t : Tables) (j : Journal) (qs : List ℕ) → Hold t j → ((q : ℕ) → IsIn q qs → IsNowhere j q × (waits (standing j q) ≡ false)) → Loses t j (with_actions j (map Lost qs))
-loses_all t j [] hold h = record { tables = hold; waiting = refl; tried = λ ws was. was }
+none_left_out : (sent : List Request) → without_all [] sent ≡ sent
+none_left_out [] = refl
+none_left_out (x ∷ xs) = ap (λ ys. x ∷ ys) (none_left_out xs)
+
+pub loses_all : (t : Tables) (j : Journal) (qs : List ℕ) → Hold t j → ((q : ℕ) → IsIn q qs → IsNowhere j q × (waits (standing j q) ≡ false)) → Loses t j (with_actions j (map Lost qs)) qs
+loses_all t j [] hold h = record { tables = hold; waiting = refl; sent = λ sent are. subst (AreSent j) (sym (none_left_out sent)) are; tried = λ ws was. was }
 loses_all t j (q ∷ qs) hold h =
     let here = h q (inl refl) in
     let rest = loses_all t (Taken (Lost q) ∷ j) qs (hold_lost t j q here.0 hold)
     (λ r found. (λ x there out. (h r (inr found)).0 x there (in_filter (λ n. not (nat_eq n q)) r (outstanding j x.number) out).0, lost_stays j q r (h r (inr found)).1)) in
-    record { tables = rest.tables; waiting = rest.waiting ∙ waiting_lost j q here.1; tried = λ ws was. rest.tried ws (tried_taken j (Lost q) ws was) }
+    record { tables = rest.tables; waiting = rest.waiting ∙ waiting_lost j q here.1; sent = λ sent are. subst (AreSent (with_actions j (map Lost (q ∷ qs)))) (without_more q qs sent) (rest.sent (without_all (q ∷ []) sent) (sent_over j (Taken (Lost q) ∷ j) q sent (λ n. refl) (λ n. refl) are)); tried = λ ws was. rest.tried ws (tried_taken j (Lost q) ws was) }
 
 -- what was outstanding on a connection that ended is outstanding on no open one
 pub nowhere_else : (j : Journal) (now c q : ℕ) → Sound j → IsIn q (outstanding j c) → IsNowhere (Happened now (fact.Closed c) true ∷ j) q × (waits (standing j q) ≡ false)

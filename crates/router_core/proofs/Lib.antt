@@ -1,8 +1,12 @@
 mod Loops
 mod Bounds
 mod Listing
+mod Knowing
 mod Choosing
+mod Otherwise
 mod Applying
 mod SettlingSo
 mod Effects
+mod Answering
+mod Noting
 mod Steps

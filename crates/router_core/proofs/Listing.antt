@@ -1,8 +1,8 @@
 -- Maps, filters and searches of lists.
-use Rattle.std.proofs.Common.{◌≡◌, inl, inr, Bool, true, false, cond, not, ◌||◌, List, [], ◌∷◌, ◌++◌, map, filter, find, Some, refl, ap, sym, ◌∙◌, true≢false}
+use Rattle.std.proofs.Common.{◌≡◌, inl, inr, Bool, true, false, cond, not, ◌&&◌, ◌||◌, List, [], ◌∷◌, ◌++◌, map, filter, find, Option, Some, None, is_some, refl, ap, sym, ◌∙◌, true≢false}
 use Rattle.std.specs.Option.{option_map}
 use Rattle.std.specs.List.{list_any}
-use Rattle.route_events.specs.Dispatch.{first_of}
+use Rattle.route_events.specs.Dispatch.{first_of, or_else}
 use Rattle.route_events.proofs.Lists.{IsIn}
 use Rattle.route_events.proofs.Quiet.{is_none_left}
 
@@ -46,14 +46,6 @@ pub first_map : {X Y : Type 0} (f : X → Y) (xs : List X) → first_of (map f x
 first_map f [] = refl
 first_map f (x ∷ xs) = refl
 
-pub filter_all : {X : Type 0} (p : X → Bool) (xs : List X) → ((x : X) → IsIn x xs → p x ≡ true) → filter p xs ≡ xs
-filter_all p [] h = refl
-filter_all p (x ∷ xs) h = rw (h x (inl refl), filter_all p xs (λ y found. h y (inr found))) refl
-
-pub filter_none : {X : Type 0} (p : X → Bool) (xs : List X) → ((x : X) → p x ≡ false) → filter p xs ≡ []
-filter_none p [] h = refl
-filter_none p (x ∷ xs) h = rw (h x) (filter_none p xs h)
-
 -- a harder test may follow an easier one
 pub filter_within : {X : Type 0} (p q : X → Bool) (xs : List X) → ((x : X) → IsIn x xs → p x ≡ true → q x ≡ true) → filter p xs ≡ filter p (filter q xs)
 filter_within p q [] h = refl
@@ -81,3 +73,41 @@ pub in_map : {X Y : Type 0} (f : X → Y) (x : X) (xs : List X) → IsIn x xs �
 in_map f x [] h = absurd h
 in_map f x (y ∷ ys) (inl same) = inl (ap f same)
 in_map f x (y ∷ ys) (inr later) = inr (in_map f x ys later)
+
+pub any_map : {X Y : Type 0} (p : Y → Bool) (f : X → Y) (xs : List X) → list_any p (map f xs) ≡ list_any (λ x. p (f x)) xs
+any_map p f [] = refl
+any_map p f (x ∷ xs) = ap (λ b. p (f x) || b) (any_map p f xs)
+
+pub any_same_in : {X : Type 0} (p q : X → Bool) (xs : List X) → ((x : X) → IsIn x xs → p x ≡ q x) → list_any p xs ≡ list_any q xs
+any_same_in p q [] h = refl
+any_same_in p q (x ∷ xs) h = λ i. h x (inl refl) i || any_same_in p q xs (λ y found. h y (inr found)) i
+
+-- those that pass one test, asked for another
+pub any_passed : {X : Type 0} (p q : X → Bool) (xs : List X) → list_any q (filter p xs) ≡ list_any (λ x. p x && q x) xs
+any_passed p q [] = refl
+any_passed {X} p q (x ∷ xs) = by_test (p x) (any_passed p q xs)
+  where
+    by_test : (b : Bool) → list_any q (filter p xs) ≡ list_any (λ x. p x && q x) xs → list_any q (cond b (x ∷ filter p xs) (filter p xs)) ≡ ((b && q x) || list_any (λ x. p x && q x) xs)
+    by_test true rest = ap (λ b. q x || b) rest
+    by_test false rest = rest
+
+pub find_same : {X : Type 0} (p q : X → Bool) (xs : List X) → ((x : X) → p x ≡ q x) → find p xs ≡ find q xs
+find_same p q [] h = refl
+find_same {X} p q (x ∷ xs) h = λ i. cond (h x i) (Some x) (find_same p q xs h i)
+
+-- a search goes on behind what has none
+pub find_append : {X : Type 0} (p : X → Bool) (xs ys : List X) → find p (xs ++ ys) ≡ or_else (find p xs) (find p ys)
+find_append p [] ys = refl
+find_append {X} p (x ∷ xs) ys = by_test (p x) (find_append p xs ys)
+  where
+    by_test : (b : Bool) → find p (xs ++ ys) ≡ or_else (find p xs) (find p ys) → cond b (Some x) (find p (xs ++ ys)) ≡ or_else (cond b (Some x) (find p xs)) (find p ys)
+    by_test true rest = refl
+    by_test false rest = rest
+
+pub or_else_map : {X Y : Type 0} (f : X → Y) (v w : Option X) → or_else (option_map f v) (option_map f w) ≡ option_map f (or_else v w)
+or_else_map f None w = refl
+or_else_map f (Some x) w = refl
+
+pub or_else_none : {X : Type 0} (v : Option X) → or_else v None ≡ v
+or_else_none None = refl
+or_else_none (Some x) = refl

@@ -1,8 +1,10 @@
 -- What loops over lists make, one more item at a time.
-use Rattle.std.proofs.Common.{◌≡◌, ℕ, ◌+◌, ◌<◌, ◌≤◌, zero, suc, Bool, true, false, cond, List, [], ◌∷◌, ◌++◌, map, take, drop, set, get_or, length, Some, is_some, find, refl, ap, sym, ◌∙◌, arith, add-one, true≢false, subst}
+use Rattle.std.proofs.Common.{◌≡◌, ℕ, ◌+◌, ◌<◌, ◌≤◌, zero, suc, Bool, true, false, cond, List, [], ◌∷◌, ◌++◌, map, take, drop, set, get_or, length, ◌&&◌, Option, Some, None, is_some, find, refl, ap, sym, ◌∙◌, arith, add-one, true≢false, subst}
 use Rattle.std.specs.Prelude.{max}
 use Rattle.router_core.specs.declared.open_connection.OpenConnection.{OpenConnection}
-use Rattle.router_core.specs.OpenConnections.{most_sends}
+use Rattle.origin_values.specs.declared.origin.Origin.{Origin}
+use Rattle.route_events.specs.Dispatch.{or_else}
+use Rattle.router_core.specs.OpenConnections.{rests_on, is_free, rests_on_alternative, best_of, most_sends}
 
 set_suc : {X : Type 0} (f : X → X) (xs : List X) (i : ℕ) (y d : X) → i < length xs → y ≡ f (get_or xs i d) → set (map f (take i xs) ++ drop i xs) i y ≡ map f (take (suc i) xs) ++ drop (suc i) xs
 set_suc f [] i y d within is = absurd (omega arith)
@@ -47,3 +49,12 @@ sends_found p (b ∷ cs) c e = by_test (p b) (sends_found p cs c) e
     by_test : (w : Bool) → (find p cs ≡ Some c → c.sends ≤ most_sends cs) → cond w (Some b) (find p cs) ≡ Some c → c.sends ≤ max b.sends (most_sends cs)
     by_test true rest e = let same : b ≡ c = cc in subst (λ (x : OpenConnection). x.sends ≤ max b.sends (most_sends cs)) same (left_most b.sends (most_sends cs))
     by_test false rest e = right_most c.sends b.sends (most_sends cs) (rest e)
+
+-- nor has the best
+pub sends_best : (o : Origin) (cs : List OpenConnection) (c : OpenConnection) → best_of o cs ≡ Some c → c.sends ≤ most_sends cs
+sends_best o cs c e = by_first (find (λ c. is_free o c && rests_on_alternative o c) cs) (find (λ c. is_free o c && rests_on c o) cs) refl refl e
+  where
+    by_first : (v w : Option OpenConnection) → find (λ c. is_free o c && rests_on_alternative o c) cs ≡ v → find (λ c. is_free o c && rests_on c o) cs ≡ w → or_else v (or_else w (find (is_free o) cs)) ≡ Some c → c.sends ≤ most_sends cs
+    by_first (Some x) w is_v is_w is = sends_found (λ c. is_free o c && rests_on_alternative o c) cs c (is_v ∙ is)
+    by_first None (Some x) is_v is_w is = sends_found (λ c. is_free o c && rests_on c o) cs c (is_w ∙ is)
+    by_first None None is_v is_w is = sends_found (is_free o) cs c is

@@ -1,5 +1,5 @@
 -- A router's step is the journal's step.
-use Rattle.std.proofs.Common.{◌≡◌, ℕ, ◌+◌, ◌<◌, Bool, true, false, cond, not, nat_eq, nat_lt, nat_le, List, [], ◌∷◌, ◌++◌, map, filter, find, Option, Some, None, is_some, refl, ap, sym, ◌∙◌, subst, arith, append_assoc, append-nil, Result, Ok, Err, IfOk}
+use Rattle.std.proofs.Common.{◌≡◌, ℕ, ◌+◌, ◌<◌, ◌≤◌, Bool, true, false, cond, not, nat_eq, nat_lt, nat_le, List, [], ◌∷◌, ◌++◌, map, filter, find, Option, Some, None, is_some, refl, ap, sym, ◌∙◌, subst, arith, true≢false, append_assoc, append-nil, Result, Ok, Err, IfOk}
 use Rattle.std.specs.Option.{option_map}
 use Rattle.route_events.specs.declared.fact.Fact.{Fact}
 use Rattle.route_events.specs.declared.fact.Fact.TheVariants as fact
@@ -9,14 +9,25 @@ use Rattle.route_events.specs.Headline.{SendsOnlyOn, RefusesOnlyWhere}
 use Rattle.route_events.specs.declared.request.Request.{Request}
 use Rattle.route_events.specs.declared.connection.Connection.{Connection}
 use Rattle.route_events.specs.declared.refusal.StepRefusal.{StepRefusal}
-use Rattle.route_events.specs.declared.refusal.StepRefusal.TheVariants.{Spent, TimeBack, NumberNotAbove, NoSuchAttempt, NoSuchConn}
+use Rattle.route_events.specs.declared.refusal.StepRefusal.TheVariants.{Spent, TimeBack, NumberNotAbove, NoSuchAttempt, NoSuchConn, NoSuchRequest}
 use Rattle.route_events.specs.Journal.{Happened, Taken, Journal, step_count, newest_moment}
-use Rattle.route_events.specs.Requests.{requests, newest_number, standing, waits, waiting}
+use Rattle.route_events.specs.Requests.{requests, newest_number, standing, waits, is_out, waiting}
 use Rattle.route_events.specs.Connections.{open_connections, is_open_number, outstanding}
 use Rattle.route_events.specs.Dispatch.{dispatch}
+use Rattle.origin_values.specs.declared.origin.Origin.{Origin}
+use Rattle.network_cache.specs.declared.kept.Kept.{Kept}
+use Rattle.network_cache.specs.Contents.{kept, live as cache_live}
+use Rattle.network_cache.proofs.Lists.{fresh_later}
+use Rattle.route_choice.specs.Capped.{capped}
+use Rattle.route_choice.specs.Contents.{kept_failures}
+use Rattle.route_choice.proofs.Backoffs.{capped_barred}
+use Rattle.route_events.specs.declared.route.Route.{Route}
+use Rattle.route_events.specs.Alternatives.{age_in, live}
+use Rattle.route_events.specs.Backoff.{failures, is_barred_by}
+use Rattle.route_events.specs.Advertisements.{answer_effects}
 use Rattle.route_events.specs.Step.{IsRun, Stepped, refusal, fact_refusal, with_actions, with_fact, effects, settle, step, newest_actions}
 use Rattle.route_events.proofs.Lists.{IsIn, AreApart, apart_filter}
-use Rattle.route_events.proofs.Sound.{Sound, sound_fact, above_newest, opened_pending, failed_pending, closed_open, IsStarted, started_of}
+use Rattle.route_events.proofs.Sound.{Sound, not_earlier, sound_fact, above_newest, opened_pending, failed_pending, closed_open, IsStarted, started_of}
 use Rattle.route_events.proofs.Settles.{Settles, effected}
 use Rattle.route_events.proofs.Runs.{each, allowed_at, all_settled, are_effects, waiting_in}
 use Rattle.router_core.specs.declared.open_connection.OpenConnection.{OpenConnection}
@@ -28,13 +39,20 @@ use Rattle.router_core.specs.OpenConnections.{kept_of}
 use Rattle.router_core.specs.WaitingRequests.{AreTried}
 use Rattle.router_core.specs.Tables.{Hold}
 use Rattle.router_core.specs.Reasons.{reason_of, reason_of_fact, newest_after}
-use Rattle.router_core.specs.StepStates.{attempt_among, connection_among, ended, opened, with_effect}
+use Rattle.router_core.specs.Looks.{Look, live_at, look_of}
+use Rattle.router_core.specs.Notes.{value_noted, kept_after}
+use Rattle.router_core.specs.SentRequests.{without_all, AreSent}
+use Rattle.router_core.specs.StepStates.{attempt_among, connection_among, out_on, ended, opened, answered_so, none_waiting}
 use Rattle.router_core.specs.StepStates as over
 use Rattle.router_core.specs.StandsFor.{StandsFor, Takes, requests_of}
-use Rattle.router_core.specs.Becomes.{begun, stepped, Becomes}
+use Rattle.router_core.specs.Becomes.{begun, after_effect, stepped, Becomes}
 use Rattle.router_core.proofs.Listing.{map_append, find_map, filter_within}
+use Rattle.router_core.proofs.Applying.{newest_with}
+use Rattle.router_core.proofs.Knowing.{SaysSame, said_settled, Sees}
 use Rattle.router_core.proofs.SettlingSo.{Keeps, Asked, number_of, still_waiting, over_keeps}
-use Rattle.router_core.proofs.Effects.{waiting_request, tried_arrival, requests_tried, tried_ended, hold_ended, hold_opened, out_on_is, loses_all, nowhere_else, hold_closed}
+use Rattle.router_core.proofs.Effects.{waiting_request, tried_arrival, requests_tried, tried_ended, hold_ended, hold_opened, out_on_is, loses_all, nowhere_else, hold_closed, sent_arrival}
+use Rattle.router_core.proofs.Answering.{answer_is, written_is, answered_keeps}
+use Rattle.router_core.proofs.Noting.{failures_noted_are, fresh_alts, live_noted}
 
 -- why a step isn't taken
 
@@ -55,7 +73,7 @@ open_is t j c hold =
     ∙ ap is_some (find_map (λ (k : OpenConnection). nat_eq k.made.number c) (kept_of j) (open_connections j))
     ∙ some_map (kept_of j) (find (λ (x : Connection). nat_eq x.number c) (open_connections j))
 
-fact_reason : (router : Router) (j : Journal) (f : Fact) → StandsFor router j → reason_of_fact router.newest router.tables f ≡ fact_refusal j f
+fact_reason : (router : Router) (j : Journal) (f : Fact) → StandsFor router j → reason_of_fact router.newest router.tables router.sent f ≡ fact_refusal j f
 fact_reason router j (fact.Request n o) stands =
     number_reason (nat_lt router.newest n) (NumberNotAbove router.newest)
     ∙ ap (λ b. cond b (Some (NumberNotAbove router.newest)) None) (sym (not_above n router.newest))
@@ -63,18 +81,16 @@ fact_reason router j (fact.Request n o) stands =
 fact_reason router j (fact.Opened m p d port names) stands = ap (λ as'. cond (is_some (attempt_among as' m)) None (Some NoSuchAttempt)) stands.tables.pending
 fact_reason router j (fact.Failed m) stands = ap (λ as'. cond (is_some (attempt_among as' m)) None (Some NoSuchAttempt)) stands.tables.pending
 fact_reason router j (fact.Closed c) stands = ap (λ b. cond b None (Some NoSuchConn)) (open_is router.tables j c stands.tables)
+fact_reason router j (fact.Response q status age altsvc) stands = ap (λ b. cond b None (Some NoSuchRequest)) (stands.sent.out q)
+fact_reason router j fact.Network stands = refl
 fact_reason router j fact.Tick stands = refl
 
-pub reason_is : (router : Router) (j : Journal) (now : ℕ) (f : Fact) → StandsFor router j → reason_of router.facts router.last router.newest router.tables now f ≡ refusal j now f
+pub reason_is : (router : Router) (j : Journal) (now : ℕ) (f : Fact) → StandsFor router j → reason_of router.facts router.last router.newest router.tables router.sent now f ≡ refusal j now f
 reason_is router j now f stands =
     ap (λ r. cond (nat_eq router.facts 16777215) (Some (Spent router.facts)) (cond (nat_lt now router.last) (Some (TimeBack (record { 0 = router.last }))) r)) (fact_reason router j f stands)
     ∙ (λ i. cond (nat_eq (stands.facts i) 16777215) (Some (Spent (stands.facts i))) (cond (nat_lt now (stands.last i)) (Some (TimeBack (record { 0 = stands.last i }))) (fact_refusal j f)))
 
 -- the effect of a fact
-
-newest_with : (j : Journal) (as' : List Action) → newest_actions (with_actions j as') ≡ newest_actions j ++ as'
-newest_with j [] = sym (append-nil (newest_actions j))
-newest_with j (a ∷ as') = newest_with (Taken a ∷ j) as' ∙ append_assoc (newest_actions j) (a ∷ []) as'
 
 -- facts that end no attempt and bring no request
 tried_closed : (j : Journal) (now c : ℕ) (ws : List Waiting) → AreTried j ws → AreTried (Happened now (fact.Closed c) true ∷ j) ws
@@ -85,12 +101,29 @@ tried_tick : (j : Journal) (now : ℕ) (ws : List Waiting) → AreTried j ws →
 tried_tick j now [] h = tt
 tried_tick j now (w ∷ ws) h = (h.0, tried_tick j now ws h.1)
 
-pub fact_keeps : (router : Router) (j : Journal) (now : ℕ) (f : Fact) → StandsFor router j → Sound j → refusal j now f ≡ None → Keeps (with_effect (begun router) f) (with_fact j now f) (waiting (with_fact j now f))
-fact_keeps router j now (fact.Request n o) stands sound free = record {
+tried_network : (j : Journal) (now : ℕ) (ws : List Waiting) → AreTried j ws → AreTried (Happened now fact.Network true ∷ j) ws
+tried_network j now [] h = tt
+tried_network j now (w ∷ ws) h = (h.0, tried_network j now ws h.1)
+
+-- a request that is answered is outstanding
+answered_out : (j : Journal) (now q status age : ℕ) (altsvc : Option (List ℕ)) → refusal j now (fact.Response q status age altsvc) ≡ None → is_out (standing j q) ≡ true
+answered_out j now q status age altsvc free = out_where (is_out (standing j q)) (not_earlier (nat_lt now (newest_moment j)) _ _ (not_earlier (nat_eq (step_count j) 16777215) _ _ free))
+  where
+    out_where : (b : Bool) → cond b None (Some NoSuchRequest) ≡ None → b ≡ true
+    out_where true e = refl
+    out_where false e = absurd (true≢false (ap is_some e))
+
+-- what a router sees of alternatives before a step
+sees_before : (router : Router) (j : Journal) (now : ℕ) → StandsFor router j → newest_moment j ≤ now → (o : Origin) → live_at router.alternatives now o ≡ live j o now
+sees_before router j now stands later o = stands.alternatives o now later
+
+pub fact_keeps : (router : Router) (j : Journal) (now : ℕ) (f : Fact) → StandsFor router j → Sound j → newest_moment j ≤ now → refusal j now f ≡ None → Keeps (after_effect router now f) (with_fact j now f) (waiting (with_fact j now f))
+fact_keeps router j now (fact.Request n o) stands sound later free = record {
   tables = record { opened = stands.tables.opened; pending = stands.tables.pending; connections = stands.tables.connections };
   waiting = map_append (λ (w : Waiting). w.request) router.waiting (record { request = record { number = n; origin = o }; tried = [] } ∷ [])
       ∙ ap (λ (qs : List Request). qs ++ record { number = n; origin = o } ∷ []) stands.waiting ∙ sym (waiting_request j now n o sound above);
   tried = tried_arrival j now n o router.waiting below stands.tried;
+  sent = sent_arrival j now n o router.sent sound above stands.sent;
   written = refl;
 }
   where
@@ -99,37 +132,54 @@ fact_keeps router j now (fact.Request n o) stands sound free = record {
 
     below : (q : Request) → IsIn q (requests_of router.waiting) → q.number < n
     below q found = omega (arith, above, sound.newest q (waiting_in j q (subst (IsIn q) stands.waiting found)).0)
-fact_keeps router j now (fact.Opened m p d port names) stands sound free =
+fact_keeps router j now (fact.Opened m p d port names) stands sound later free =
     let is : IsStarted j m = started_of j m (opened_pending j now m p d port names free) in
     let k : Journal = Happened now (fact.Opened m p d port names) true ∷ j in
-    subst (λ w. Keeps (opened (begun router) w p d port names) k (waiting k)) (sym (ap (λ as'. attempt_among as' m) stands.tables.pending ∙ is.found)) (record {
-      tables = hold_opened router.tables j now m is.attempt p d port names sound is.found is.numbered is.going stands.tables;
+    subst (λ w. Keeps (opened (live_at router.alternatives now) (begun router) w p d port names) k (waiting k)) (sym (ap (λ as'. attempt_among as' m) stands.tables.pending ∙ is.found)) (record {
+      tables = hold_opened (live_at router.alternatives now) router.tables j now m is.attempt p d port names sound (sees_before router j now stands later) is.found is.numbered is.going stands.tables;
       waiting = requests_tried is.attempt.origin is.attempt.route router.waiting ∙ stands.waiting;
       tried = tried_ended j now (fact.Opened m p d port names) m is.attempt router.waiting refl is.found stands.tried;
+      sent = record { out = stands.sent.out; known = stands.sent.known };
       written = refl;
     })
-fact_keeps router j now (fact.Failed m) stands sound free =
+fact_keeps router j now (fact.Failed m) stands sound later free =
     let is : IsStarted j m = started_of j m (failed_pending j now m free) in
     let k : Journal = Happened now (fact.Failed m) true ∷ j in
     subst (λ w. Keeps (ended (begun router) w) k (waiting k)) (sym (ap (λ as'. attempt_among as' m) stands.tables.pending ∙ is.found)) (record {
       tables = subst (λ n. Hold (record { opened = router.tables.opened; pending = over.other_attempts router.tables.pending n; connections = router.tables.connections }) k) (sym is.numbered) (hold_ended router.tables j now m stands.tables);
       waiting = requests_tried is.attempt.origin is.attempt.route router.waiting ∙ stands.waiting;
       tried = tried_ended j now (fact.Failed m) m is.attempt router.waiting refl is.found stands.tried;
+      sent = record { out = stands.sent.out; known = stands.sent.known };
       written = refl;
     })
-fact_keeps router j now (fact.Closed c) stands sound free =
+fact_keeps router j now (fact.Closed c) stands sound later free =
     let begins : Journal = Happened now (fact.Closed c) true ∷ j in
     let loses = loses_all _ begins (outstanding j c) (hold_closed router.tables j now c stands.tables) (λ q out. nowhere_else j now c q sound out) in
+    let lost : out_on (connection_among router.tables.connections c) ≡ outstanding j c = out_on_is router.tables j c stands.tables (closed_open j now c free) in
     record {
       tables = loses.tables;
       waiting = stands.waiting ∙ sym loses.waiting;
       tried = loses.tried router.waiting (tried_closed j now c router.waiting stands.tried);
-      written = ap (λ qs. map Lost qs) (out_on_is router.tables j c stands.tables (closed_open j now c free)) ∙ sym (newest_with begins (map Lost (outstanding j c)));
+      sent = subst (λ qs. AreSent (with_fact j now (fact.Closed c)) (without_all qs router.sent)) (sym lost) (loses.sent router.sent (record { out = stands.sent.out; known = stands.sent.known }));
+      written = ap (λ qs. map Lost qs) lost ∙ sym (newest_with begins (map Lost (outstanding j c)));
     }
-fact_keeps router j now fact.Tick stands sound free = record {
+fact_keeps router j now (fact.Response q status age altsvc) stands sound later free =
+    let out : is_out (standing j q) ≡ true = answered_out j now q status age altsvc free in
+    let written = written_is router.tables j now q status altsvc router.sent stands.tables stands.sent out in
+    subst (λ as'. Keeps (answered_so (begun router) q as') (with_fact j now (fact.Response q status age altsvc)) (waiting (with_fact j now (fact.Response q status age altsvc)))) (sym written)
+    (answered_keeps (begun router) j now q status age altsvc (answer_effects j now q status altsvc) refl (answer_is j now q status altsvc) out stands.tables stands.waiting stands.tried stands.sent)
+fact_keeps router j now fact.Network stands sound later free = record {
+  tables = record { opened = stands.tables.opened; pending = stands.tables.pending; connections = stands.tables.connections };
+  waiting = stands.waiting;
+  tried = tried_network j now router.waiting stands.tried;
+  sent = record { out = stands.sent.out; known = stands.sent.known };
+  written = refl;
+}
+fact_keeps router j now fact.Tick stands sound later free = record {
   tables = record { opened = stands.tables.opened; pending = stands.tables.pending; connections = stands.tables.connections };
   waiting = stands.waiting;
   tried = tried_tick j now router.waiting stands.tried;
+  sent = record { out = stands.sent.out; known = stands.sent.known };
   written = refl;
 }
 
@@ -156,6 +206,8 @@ number_fact j now (fact.Request n o) = refl
 number_fact j now (fact.Opened m p d port names) = refl
 number_fact j now (fact.Failed m) = refl
 number_fact j now (fact.Closed c) = number_with (Happened now (fact.Closed c) true ∷ j) (map Lost (outstanding j c))
+number_fact j now (fact.Response q status age altsvc) = number_with (Happened now (fact.Response q status age altsvc) true ∷ j) (answer_effects j now q status altsvc)
+number_fact j now fact.Network = refl
 number_fact j now fact.Tick = refl
 
 -- what settles in the journal
@@ -166,7 +218,7 @@ pub record Settled (j : Journal) (now : ℕ) (f : Fact) : Type 0 where
 
 pub settled_so : (j : Journal) (now : ℕ) (f : Fact) → Sound j → refusal j now f ≡ None → Settled j now f
 settled_so j now f sound free =
-    let done = effected (Happened now f true ∷ j) (effects j f) (are_effects j f) in
+    let done = effected (Happened now f true ∷ j) (effects j now f) (are_effects j now f) in
     let begun : Sound (with_fact j now f) = done.sound (sound_fact j now f free sound) in
     record { sound = begun; moment = done.moment; all = all_settled (with_fact j now f) now begun done.moment }
 
@@ -177,8 +229,8 @@ still_all j now f so =
     let q : Request → Bool = λ (r : Request). waits (standing (with_fact j now f) r.number) in
     sym (ap (filter p) so.all.quiet.requests_same ∙ filter_within p q (requests (with_fact j now f)) (λ r found h. so.all.fewer r.number h))
 
-asked_of : (s : StepState) (j : Journal) (now : ℕ) (f : Fact) → Settled j now f → Keeps s (with_fact j now f) (waiting (with_fact j now f)) → Asked (with_fact j now f) now s.waiting
-asked_of s j now f so keeps =
+asked_of : (look : Look) (s : StepState) (j : Journal) (now : ℕ) (f : Fact) → Settled j now f → Keeps s (with_fact j now f) (waiting (with_fact j now f)) → Sees look (with_fact j now f) now → Asked look (with_fact j now f) now s.waiting
+asked_of look s j now f so keeps sees =
     let k : Journal = with_fact j now f in
     let back : waiting k ≡ requests_of s.waiting = sym keeps.waiting in
     record {
@@ -187,38 +239,77 @@ asked_of s j now f so keeps =
       apart = subst (λ qs. AreApart number_of qs) back (apart_filter number_of (λ (r : Request). waits (standing k r.number)) (requests k) so.sound.requests_apart);
       waits_now = λ q found. waiting_in k q (subst (IsIn q) keeps.waiting found);
       tried = keeps.tried;
+      sees = sees;
     }
 
-pub step_keeps : (router : Router) (j : Journal) (now : ℕ) (f : Fact) → StandsFor router j → refusal j now f ≡ None → Keeps (stepped router f) (step j now f) (waiting (step j now f))
-step_keeps router j now f stands free =
-    let sound : Sound j = (each stands.run).sound in
+pub step_keeps : (look : Look) (router : Router) (j : Journal) (now : ℕ) (f : Fact) → Settled j now f → Keeps (after_effect router now f) (with_fact j now f) (waiting (with_fact j now f)) → Sees look (with_fact j now f) now →
+    Keeps (stepped router look now f) (step j now f) (waiting (step j now f))
+step_keeps look router j now f so keeps sees =
     let k : Journal = with_fact j now f in
-    let s : StepState = with_effect (begun router) f in
-    let so : Settled j now f = settled_so j now f sound free in
-    let keeps : Keeps s k (waiting k) = fact_keeps router j now f stands sound free in
-    let start : Keeps (record { tables = s.tables; waiting = []; actions = s.actions }) k [] = record { tables = keeps.tables; waiting = refl; tried = tt; written = keeps.written } in
-    let done = over_keeps (record { tables = s.tables; waiting = []; actions = s.actions }) k now s.waiting [] (asked_of s j now f so keeps) start in
-    subst (λ qs. Keeps (stepped router f) (step j now f) qs) (still_all j now f so)
-    (subst (λ qs. Keeps (stepped router f) (settle k now qs) (still_waiting (settle k now qs) qs)) keeps.waiting done)
+    let s : StepState = after_effect router now f in
+    let start : Keeps (none_waiting s) k [] = record { tables = keeps.tables; waiting = refl; tried = tt; sent = keeps.sent; written = keeps.written } in
+    let done = over_keeps look (none_waiting s) k now s.waiting [] (asked_of look s j now f so keeps sees) start in
+    subst (λ qs. Keeps (stepped router look now f) (step j now f) qs) (still_all j now f so)
+    (subst (λ qs. Keeps (stepped router look now f) (settle k now qs) (still_waiting (settle k now qs) qs)) keeps.waiting done)
+
+-- what is known of alternatives and failures when the requests are settled, and after it
+
+seen_live : (old new : Router) (actions : List Action) (j : Journal) (now : ℕ) (f : Fact) → StandsFor old j → newest_moment j ≤ now → Keeps (after_effect old now f) (with_fact j now f) (waiting (with_fact j now f)) → (becomes : Becomes old new actions now f) →
+    (o : Origin) (at : ℕ) → now ≤ at → cache_live becomes.seen o at ≡ live (with_fact j now f) o at
+seen_live old new actions j now f stands later keeps becomes o at h =
+    ap (fresh_alts at) (becomes.noted o ∙ ap (λ as'. value_noted now (age_in f) as' o (kept_after f (kept old.alternatives o))) written)
+    ∙ live_noted j now f o at (kept old.alternatives o) (stands.alternatives o at (omega (arith, later, h)))
+  where
+    written : (after_effect old now f).actions ≡ effects j now f
+    written = keeps.written ∙ newest_with (Happened now f true ∷ j) (effects j now f)
+
+failures_known : (old new : Router) (actions : List Action) (j : Journal) (now : ℕ) (f : Fact) → StandsFor old j → Becomes old new actions now f → (o : Origin) (r : Route) → kept_failures new.broken o r ≡ capped (failures (with_fact j now f) o r)
+failures_known old new actions j now f stands becomes o r = becomes.failures o r ∙ failures_noted_are old.tables j now f o r (kept_failures old.broken o r) stands.tables (stands.failures o r)
+
+pub sees_settling : (old new : Router) (actions : List Action) (j : Journal) (now : ℕ) (f : Fact) → StandsFor old j → newest_moment j ≤ now → Keeps (after_effect old now f) (with_fact j now f) (waiting (with_fact j now f)) → (becomes : Becomes old new actions now f) →
+    Sees (look_of becomes.seen new.broken now) (with_fact j now f) now
+sees_settling old new actions j now f stands later keeps becomes = record {
+  live_seen = λ o. seen_live old new actions j now f stands later keeps becomes o now (omega arith);
+  broken_seen = λ o r. ap (λ fs. is_barred_by fs r now) (failures_known old new actions j now f stands becomes o r) ∙ capped_barred (failures (with_fact j now f) o r) r now;
+}
+
+-- a moment that isn't refused isn't before that of the newest step
+pub not_before : (j : Journal) (now : ℕ) (f : Fact) → refusal j now f ≡ None → newest_moment j ≤ now
+not_before j now f free = by_test (nat_lt now (newest_moment j)) refl (not_earlier (nat_eq (step_count j) 16777215) _ _ free)
+  where
+    by_test : (b : Bool) → nat_lt now (newest_moment j) ≡ b → cond b (Some (TimeBack (record { 0 = newest_moment j }))) (fact_refusal j f) ≡ None → newest_moment j ≤ now
+    by_test true e free = absurd (true≢false (ap is_some free))
+    by_test false e free = grind arith
 
 pub step_stands : (old new : Router) (actions : List Action) (j : Journal) (now : ℕ) (f : Fact) → StandsFor old j → refusal j now f ≡ None → Becomes old new actions now f → Takes new actions j now f
 step_stands old new actions j now f stands free becomes =
-    let keeps = step_keeps old j now f stands free in
-    let so : Settled j now f = settled_so j now f (each stands.run).sound free in
+    let sound : Sound j = (each stands.run).sound in
+    let later : newest_moment j ≤ now = not_before j now f free in
+    let so : Settled j now f = settled_so j now f sound free in
+    let begins = fact_keeps old j now f stands sound later free in
     let k : Journal = with_fact j now f in
-    let counted : step_count (step j now f) ≡ 1 + step_count j = count_settle k now (waiting k) ∙ count_with (Happened now f true ∷ j) (effects j f) in
+    let keeps = step_keeps (look_of becomes.seen new.broken now) old j now f so begins (sees_settling old new actions j now f stands later begins becomes) in
+    let said : SaysSame k (step j now f) = said_settled k now (waiting k) in
+    let counted : step_count (step j now f) ≡ 1 + step_count j = count_settle k now (waiting k) ∙ count_with (Happened now f true ∷ j) (effects j now f) in
     let facts : new.facts ≡ step_count (step j now f) = omega (arith, becomes.facts, stands.facts, counted) in
+    let moment : newest_moment (step j now f) ≡ now = so.all.quiet.moment_same ∙ so.moment in
     record {
       not_refused = free;
       written = becomes.written ∙ keeps.written;
       stands = record {
         run = Stepped j now f stands.run free;
         facts = facts;
-        last = becomes.last ∙ sym (so.all.quiet.moment_same ∙ so.moment);
+        last = becomes.last ∙ sym moment;
         newest = becomes.newest ∙ ap (λ n. newest_after n f) stands.newest ∙ sym (number_settle k now (waiting k) ∙ number_fact j now f);
         tables = subst (λ t. Hold t (step j now f)) (sym becomes.tables) keeps.tables;
         waiting = ap requests_of becomes.waiting ∙ keeps.waiting;
         tried = subst (λ ws. AreTried (step j now f) ws) (sym becomes.waiting) keeps.tried;
+        sent = subst (λ qs. AreSent (step j now f) qs) (sym becomes.sent) keeps.sent;
+        alternatives = λ o at h. ap (fresh_alts at) (becomes.purged o)
+            ∙ ap (map (λ (x : Kept). x.alt)) (fresh_later now at (kept becomes.seen o) (omega (arith, moment, h)))
+            ∙ seen_live old new actions j now f stands later begins becomes o at (omega (arith, moment, h))
+            ∙ sym (said.live_same o at);
+        failures = λ o r. failures_known old new actions j now f stands becomes o r ∙ ap capped (sym (said.failures_same o r));
       };
     }
 
@@ -230,7 +321,7 @@ pub refuses_only : (j : Journal) → IsRun j → RefusesOnlyWhere j
 refuses_only j is = λ newer before q e. allowed_at j newer before (Refuse q) is e
 
 -- a step that isn't refused gives such a journal
-pub step_runs : (router : Router) (j : Journal) (now : ℕ) (f : Fact) → reason_of router.facts router.last router.newest router.tables now f ≡ None → StandsFor router j → IsRun (step j now f)
+pub step_runs : (router : Router) (j : Journal) (now : ℕ) (f : Fact) → reason_of router.facts router.last router.newest router.tables router.sent now f ≡ None → StandsFor router j → IsRun (step j now f)
 step_runs router j now f free stands = Stepped j now f stands.run (sym (reason_is router j now f stands) ∙ free)
 
 pub ok_map : {T E : Type 0} (P Q : T → Type 0) (r : Result T E) → ((x : T) → P x → Q x) → IfOk r P → IfOk r Q

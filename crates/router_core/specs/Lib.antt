@@ -1,8 +1,11 @@
 pub mod OpenConnections
 pub mod WaitingRequests
 pub mod Tables
+pub mod Looks
+pub mod SentRequests
 pub mod Choices
 pub mod StepStates
+pub mod Notes
 pub mod Reasons
 pub mod StandsFor
 pub mod Becomes

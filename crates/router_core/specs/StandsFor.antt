@@ -1,16 +1,24 @@
 -- Which journals a router stands for: what it keeps is what the journal says. It keeps nothing else, so that a router
 -- may forget what no later step can ask for.
-use Rattle.std.specs.Prelude.{◌≡◌, ℕ, List, map, Some, None}
+use Rattle.std.specs.Prelude.{◌≡◌, ◌≤◌, ℕ, List, map, Some, None}
+use Rattle.origin_values.specs.declared.origin.Origin.{Origin}
+use Rattle.network_cache.specs.Contents.{live}
+use Rattle.route_choice.specs.Capped.{capped}
+use Rattle.route_choice.specs.Contents.{kept_failures}
 use Rattle.route_events.specs.declared.fact.Fact.{Fact}
 use Rattle.route_events.specs.declared.action.Action.{Action}
 use Rattle.route_events.specs.declared.request.Request.{Request}
 use Rattle.route_events.specs.Journal.{Journal, step_count, newest_moment}
 use Rattle.route_events.specs.Requests.{newest_number, waiting}
+use Rattle.route_events.specs.declared.route.Route.{Route}
+use Rattle.route_events.specs.Alternatives.{live as journal_live}
+use Rattle.route_events.specs.Backoff.{failures}
 use Rattle.route_events.specs.Step.{IsRun, refusal, step, newest_actions}
 use Rattle.router_core.specs.declared.router.Router.{Router}
 use Rattle.router_core.specs.declared.fault.StepFault.{StepFault}
 use Rattle.router_core.specs.declared.fault.StepFault.TheVariants.{NoMemory, Refused}
 use Rattle.router_core.specs.declared.waiting.Waiting.{Waiting}
+use Rattle.router_core.specs.SentRequests.{AreSent}
 use Rattle.router_core.specs.WaitingRequests.{AreTried}
 use Rattle.router_core.specs.Tables.{Hold}
 
@@ -29,6 +37,12 @@ pub record StandsFor (router : Router) (journal : Journal) : Type 0 where
   -- the requests that wait, and on which routes each was tried since it arrived
   pub waiting : requests_of router.waiting ≡ waiting journal
   pub tried : AreTried journal router.waiting
+  -- the requests that are outstanding
+  pub sent : AreSent journal router.sent
+  -- at each moment from the newest on, the live alternatives of each origin
+  pub alternatives : (o : Origin) (now : ℕ) → newest_moment journal ≤ now → live router.alternatives o now ≡ journal_live journal o now
+  -- the failures of each origin's route
+  pub failures : (o : Origin) (r : Route) → kept_failures router.broken o r ≡ capped (failures journal o r)
 
 -- the step isn't refused, and gives these actions and this router
 pub record Takes (new : Router) (actions : List Action) (journal : Journal) (now : ℕ) (fact : Fact) : Type 0 where

@@ -5,7 +5,8 @@ use Rattle.origin_values.specs.Equality.{origin_eq}
 use Rattle.origin_values.specs.declared.origin.Origin.{Origin}
 use Rattle.route_events.specs.declared.route.Route.{Route}
 use Rattle.route_events.specs.Journal.{Journal}
-use Rattle.route_events.specs.Routes.{route_eq, was_tried}
+use Rattle.route_events.specs.Authority.{route_eq}
+use Rattle.route_events.specs.Routes.{was_tried}
 use Rattle.router_core.specs.declared.waiting.Waiting.{Waiting}
 
 -- an attempt by the route has ended since the request arrived

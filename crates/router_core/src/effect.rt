@@ -1,17 +1,31 @@
-ghost use Rattle.std.specs.Prelude.{◌≡◌, ◌++◌, map, OnOk};
+ghost use Rattle.std.specs.Prelude.{◌≡◌, ◌≤◌, ◌++◌, map, OnOk};
+ghost use Rattle.network_cache.specs.Contents.{newest_moment};
 ghost use Rattle.std.specs.Option.{option_copied};
 ghost use Rattle.route_events.specs.declared.action.Action.TheVariants.{Lost as LostAction};
+ghost use Rattle.router_core.specs.Looks.{live_at};
 ghost use Rattle.router_core.specs.StepStates.{attempt_among, other_attempts, connection_among, other_connections, out_on, arrived, ended, opened, closed, with_effect, with_end, with_connection};
 
-use crate::open_connection::{OpenConnection, is_success};
+use crate::answer::answer;
+use crate::open_connection::{OpenConnection, gives, is_success};
+use crate::sent::without_all;
 use crate::step_state::StepState;
 use crate::waiting::{Waiting, note_end};
-use alt_base::{Duplicate, ListOf, NoMemory};
+use alt_base::{Duplicate, ListOf, Moment, NoMemory};
 use coalescing::CertNames;
+use network_cache::Cache;
 use origin_values::{Addr, Origin, Proto};
 use route_events::{Action, Actions, Attempt, Connection, Fact, Request};
 use std::alloc::Global;
 use std::mem;
+
+// What an opening told.
+#[derive(Debug, Drop)]
+struct Opening {
+    proto: Proto,
+    addr: Addr,
+    port: u16,
+    names: CertNames,
+}
 
 pub(crate) fn attempt_among(attempts: &[Attempt], number: u64) -> Option<&Attempt>
     ensures { option_copied result ≡ attempt_among attempts.now number }
@@ -75,7 +89,7 @@ fn end_attempt(alloc: Global, state: &mut StepState, attempt: &Attempt) -> Resul
     let pending = mem::replace(&mut state.tables.pending, ListOf::new(alloc));
     state.tables.pending = other_attempts(pending, attempt.number);
     let mut waiting = mem::replace(&mut state.waiting, ListOf::new(alloc)).into_vec();
-    note_end(&mut waiting, &attempt.origin, attempt.route)?;
+    note_end(alloc, &mut waiting, &attempt.origin, &attempt.route)?;
     state.waiting = ListOf::from_vec(waiting);
     Ok(())
 }
@@ -90,10 +104,18 @@ fn fail(alloc: Global, state: &mut StepState, number: u64) -> Result<(), NoMemor
     end_attempt(alloc, state, &found)
 }
 
-fn keep_connection(state: &mut StepState, made: Connection, alloc: Global) -> Result<(), NoMemory>
-    ensures { OnOk result (state.new ≡ with_connection state.old made) }
+fn keep_connection(
+    alloc: Global,
+    cache: &Cache,
+    now: Moment,
+    state: &mut StepState,
+    made: Connection,
+) -> Result<(), NoMemory>
+    requires { newest_moment cache.now ≤ now.0 }
+    ensures { OnOk result (state.new ≡ with_connection (live_at cache.now now.0) state.old made) }
 {
-    let bound = is_success(&made);
+    let live = cache.live(alloc, now, &made.origin)?;
+    let bound = is_success(&made) && gives(live.as_slice(), &made.route);
     state.tables.connections.push(OpenConnection {
         made,
         bound,
@@ -105,14 +127,14 @@ fn keep_connection(state: &mut StepState, made: Connection, alloc: Global) -> Re
 
 fn open(
     alloc: Global,
+    cache: &Cache,
+    now: Moment,
     state: &mut StepState,
     number: u64,
-    proto: Proto,
-    addr: Addr,
-    port: u16,
-    names: CertNames,
+    opening: Opening,
 ) -> Result<(), NoMemory>
-    ensures { OnOk result (state.new ≡ opened state.old (attempt_among state.old.tables.pending number) proto addr port names) }
+    requires { newest_moment cache.now ≤ now.0 }
+    ensures { OnOk result (state.new ≡ opened (live_at cache.now now.0) state.old (attempt_among state.old.tables.pending number) opening.proto opening.addr opening.port opening.names) }
 {
     let found = match attempt_among(state.tables.pending.as_slice(), number) {
         None => return Ok(()),
@@ -123,12 +145,12 @@ fn open(
         number: found.number,
         origin: found.origin,
         route: found.route,
-        proto,
-        addr,
-        port,
-        names,
+        proto: opening.proto,
+        addr: opening.addr,
+        port: opening.port,
+        names: opening.names,
     };
-    keep_connection(state, made, alloc)
+    keep_connection(alloc, cache, now, state, made)
 }
 
 fn lose_all(actions: &mut Actions, requests: &[u32]) -> Result<(), NoMemory>
@@ -140,20 +162,37 @@ fn lose_all(actions: &mut Actions, requests: &[u32]) -> Result<(), NoMemory>
     Ok(())
 }
 
+fn outstanding_on(connections: &[OpenConnection], conn: u64) -> &[u32]
+    ensures { result.now ≡ out_on (connection_among connections.now conn) }
+{
+    match connection_among(connections, conn) {
+        None => &[],
+        Some(connection) => connection.outstanding.as_slice(),
+    }
+}
+
 fn close(alloc: Global, state: &mut StepState, conn: u64) -> Result<(), NoMemory>
     ensures { OnOk result (state.new ≡ closed state.old conn) }
 {
-    if let Some(connection) = connection_among(state.tables.connections.as_slice(), conn) {
-        lose_all(&mut state.actions, connection.outstanding.as_slice())?;
-    }
+    let out = outstanding_on(state.tables.connections.as_slice(), conn);
+    lose_all(&mut state.actions, out)?;
+    let sent = mem::replace(&mut state.sent, ListOf::new(alloc));
+    state.sent = without_all(sent, out);
     let connections = mem::replace(&mut state.tables.connections, ListOf::new(alloc));
     state.tables.connections = other_connections(connections, conn);
     Ok(())
 }
 
 /// The effect of a fact.
-pub(crate) fn take_fact(alloc: Global, state: &mut StepState, fact: Fact) -> Result<(), NoMemory>
-    ensures { OnOk result (state.new ≡ with_effect state.old fact) }
+pub(crate) fn take_fact(
+    alloc: Global,
+    cache: &Cache,
+    now: Moment,
+    state: &mut StepState,
+    fact: Fact,
+) -> Result<(), NoMemory>
+    requires { newest_moment cache.now ≤ now.0 }
+    ensures { OnOk result (state.new ≡ with_effect (live_at cache.now now.0) state.old fact) }
 {
     match fact {
         Fact::Request { number, origin } => arrive(alloc, state, number, origin),
@@ -163,9 +202,27 @@ pub(crate) fn take_fact(alloc: Global, state: &mut StepState, fact: Fact) -> Res
             addr,
             port,
             names,
-        } => open(alloc, state, attempt, proto, addr, port, names),
+        } => open(
+            alloc,
+            cache,
+            now,
+            state,
+            attempt,
+            Opening {
+                proto,
+                addr,
+                port,
+                names,
+            },
+        ),
         Fact::Failed { attempt } => fail(alloc, state, attempt),
         Fact::Closed { conn } => close(alloc, state, conn),
-        Fact::Tick => Ok(()),
+        Fact::Response {
+            request,
+            status,
+            age: _,
+            altsvc,
+        } => answer(alloc, state, request, status, altsvc),
+        Fact::Network | Fact::Tick => Ok(()),
     }
 }

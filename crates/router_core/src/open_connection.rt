@@ -1,15 +1,19 @@
-ghost use Rattle.std.specs.Prelude.{◌≡◌, ◌<◌, ◌^◌, OnOk};
+ghost use Rattle.std.specs.Prelude.{◌≡◌, ◌<◌, ◌^◌, map, OnOk};
 ghost use Rattle.coalescing.specs.Covers.{covers};
-ghost use Rattle.route_events.specs.Authority.{is_https, is_tls, is_among, protocols, is_success};
-ghost use Rattle.route_events.specs.Connections.{is_http11, is_none_out};
-ghost use Rattle.router_core.specs.OpenConnections.{rests_on, authorises, is_occupied, sent_on};
+ghost use Rattle.route_events.specs.Alternatives.{is_listed};
+ghost use Rattle.route_events.specs.Authority.{is_https, is_tls, is_among, is_success, gives};
+ghost use Rattle.route_events.specs.Connections.{is_http11, is_none_out, without};
+ghost use Rattle.router_core.specs.OpenConnections.{succeeds, rests_on, authorises, is_occupied, sent_on, without_request, rebound};
 
 use alt_base::{ListOf, NoMemory};
-use coalescing::covers;
+use altsvc_grammar::{Alt, AltKey, same_key};
+use coalescing::{CertNames, covers};
 use origin_values::{Origin, Proto, Protos, Scheme, same_origin};
-use route_events::{Connection, Route};
+use route_events::{Connection, Route, protocols_of};
+use std::alloc::Global;
+use std::mem;
 
-/// A connection that is open: as it was made, whether its opening was a success, the requests outstanding on it in the
+/// A connection that is open: as it was made, whether it has a basis for the origin that it was opened for, the requests outstanding on it in the
 /// order of their sends, and the number of its sends.
 #[derive(Debug, Drop)]
 pub(crate) struct OpenConnection {
@@ -28,24 +32,6 @@ pub(crate) fn is_secure(scheme: Scheme) -> bool
     }
 }
 
-// The protocols of a route.
-fn protocols(scheme: Scheme, route: Route) -> Protos
-    ensures { result ≡ protocols scheme route }
-{
-    match (scheme, route) {
-        (Scheme::Http, Route::Direct) => Protos {
-            h2: false,
-            h3: false,
-            http11: true,
-        },
-        (Scheme::Https, Route::Direct) => Protos {
-            h2: true,
-            h3: false,
-            http11: true,
-        },
-    }
-}
-
 fn is_among(protos: Protos, proto: Proto) -> bool
     ensures { result ≡ is_among protos proto }
 {
@@ -57,16 +43,23 @@ fn is_among(protos: Protos, proto: Proto) -> bool
     }
 }
 
+/// Whether an opening with this protocol and these names is a success of an attempt for the origin by the route.
+pub(crate) fn succeeds(origin: &Origin, route: &Route, proto: Proto, names: &CertNames) -> bool
+    ensures { result ≡ succeeds origin.now route.now proto names.now }
+{
+    is_among(protocols_of(origin.scheme, route), proto)
+        && (!is_secure(origin.scheme) || covers(names, &origin.host))
+}
+
 /// Whether an opening is a success of its attempt.
 pub(crate) fn is_success(made: &Connection) -> bool
     ensures { result ≡ is_success made.now }
 {
-    is_among(protocols(made.origin.scheme, made.route), made.proto)
-        && (!is_secure(made.origin.scheme) || covers(&made.names, &made.origin.host))
+    succeeds(&made.origin, &made.route, made.proto, &made.names)
 }
 
-// Whether the connection has a basis for an origin.
-fn rests_on(connection: &OpenConnection, origin: &Origin) -> bool
+/// Whether the connection has a basis for an origin.
+pub(crate) fn rests_on(connection: &OpenConnection, origin: &Origin) -> bool
     ensures { result ≡ rests_on connection.now origin.now }
 {
     same_origin(&connection.made.origin, origin) && connection.bound
@@ -124,4 +117,62 @@ pub(crate) fn note_send(
         connection.sends += 1;
     }
     Ok(())
+}
+
+fn is_listed(alts: &[Alt], key: &AltKey) -> bool
+    ensures { result ≡ is_listed alts.now key.now }
+{
+    alts.iter().any(|alt| same_key(&alt.key, key))
+}
+
+/// Whether some alternatives give a route.
+pub(crate) fn gives(alts: &[Alt], route: &Route) -> bool
+    ensures { result ≡ gives alts.now route.now }
+{
+    match route {
+        Route::Direct => true,
+        Route::Alt(key) => is_listed(alts, key),
+    }
+}
+
+fn drop_number(numbers: &mut Vec<u32>, number: u32)
+    ensures { numbers.new.items ≡ without number numbers.old.items }
+{
+    numbers.retain(|n| *n != number);
+}
+
+fn forget_on(alloc: Global, connection: &mut OpenConnection, request: u32)
+    ensures { connection.new ≡ without_request request connection.old }
+{
+    let outstanding = mem::replace(&mut connection.outstanding, ListOf::new(alloc));
+    let mut numbers = outstanding.into_vec();
+    drop_number(&mut numbers, request);
+    connection.outstanding = ListOf::from_vec(numbers);
+}
+
+/// A request isn't outstanding any more, on any connection.
+pub(crate) fn forget_request(alloc: Global, connections: &mut [OpenConnection], request: u32)
+    ensures { connections.new ≡ map (without_request request) connections.old }
+{
+    for connection in connections.iter_mut() {
+        forget_on(alloc, connection, request);
+    }
+}
+
+fn rebind_one(connection: &mut OpenConnection, origin: &Origin, alts: &[Alt])
+    ensures { connection.new ≡ rebound origin.now alts.now connection.old }
+{
+    if same_origin(origin, &connection.made.origin) && !gives(alts, &connection.made.route) {
+        connection.bound = false;
+    }
+}
+
+/// A value was taken for an origin: its connections that were opened by alternatives that aren't listed rest on nothing
+/// any more.
+pub(crate) fn rebind(connections: &mut [OpenConnection], origin: &Origin, alts: &[Alt])
+    ensures { connections.new ≡ map (rebound origin.now alts.now) connections.old }
+{
+    for connection in connections.iter_mut() {
+        rebind_one(connection, origin, alts);
+    }
 }

@@ -1,11 +1,13 @@
 ghost use Rattle.std.specs.Prelude.{◌≡◌, is_some, if◌then◌else◌};
 ghost use Rattle.router_core.specs.Reasons.{reason_of_fact, reason_of, newest_after};
+ghost use Rattle.router_core.specs.SentRequests.{request_among};
 ghost use Rattle.router_core.specs.StepStates.{attempt_among, connection_among};
 
 use crate::effect::{attempt_among, connection_among};
+use crate::sent::request_among;
 use crate::tables::Tables;
-use alt_base::Moment;
-use route_events::{Fact, StepRefusal};
+use alt_base::{ListOf, Moment};
+use route_events::{Fact, Request, StepRefusal};
 
 /// The most facts that one router takes.
 pub(crate) const MOST_FACTS: u32 = 16_777_215;
@@ -38,9 +40,20 @@ fn is_open(tables: &Tables, conn: u64) -> bool
     connection_among(tables.connections.as_slice(), conn).is_some()
 }
 
+fn is_outstanding(sent: &ListOf<Request>, request: u32) -> bool
+    ensures { result ≡ is_some (request_among sent.now request) }
+{
+    request_among(sent.as_slice(), request).is_some()
+}
+
 // Why a fact isn't taken, by the fact alone.
-fn reason_of_fact(newest: u32, tables: &Tables, fact: &Fact) -> Option<StepRefusal>
-    ensures { result ≡ reason_of_fact newest tables.now fact.now }
+fn reason_of_fact(
+    newest: u32,
+    tables: &Tables,
+    sent: &ListOf<Request>,
+    fact: &Fact,
+) -> Option<StepRefusal>
+    ensures { result ≡ reason_of_fact newest tables.now sent.now fact.now }
 {
     match fact {
         Fact::Request { number, .. } => unless(
@@ -54,7 +67,10 @@ fn reason_of_fact(newest: u32, tables: &Tables, fact: &Fact) -> Option<StepRefus
             unless(is_pending(tables, *attempt), StepRefusal::NoSuchAttempt)
         }
         Fact::Closed { conn } => unless(is_open(tables, *conn), StepRefusal::NoSuchConn),
-        Fact::Tick => None,
+        Fact::Response { request, .. } => {
+            unless(is_outstanding(sent, *request), StepRefusal::NoSuchRequest)
+        }
+        Fact::Network | Fact::Tick => None,
     }
 }
 
@@ -64,10 +80,11 @@ pub(crate) fn reason_of(
     last: u32,
     newest: u32,
     tables: &Tables,
+    sent: &ListOf<Request>,
     now: Moment,
     fact: &Fact,
 ) -> Option<StepRefusal>
-    ensures { result ≡ reason_of facts last newest tables.now now.0 fact.now }
+    ensures { result ≡ reason_of facts last newest tables.now sent.now now.0 fact.now }
 {
     if facts == MOST_FACTS {
         return Some(StepRefusal::Spent { facts });
@@ -75,5 +92,5 @@ pub(crate) fn reason_of(
     if now.0 < last {
         return Some(StepRefusal::TimeBack { last: Moment(last) });
     }
-    reason_of_fact(newest, tables, fact)
+    reason_of_fact(newest, tables, sent, fact)
 }

@@ -1,15 +1,20 @@
 ghost use Rattle.std.specs.Prelude.{◌≡◌, ◌≤◌, ◌<◌, ◌+◌, ◌*◌, [], ℕ, length, IfOk, IfErr};
+ghost use Rattle.network_cache.specs.Contents.{newest_moment};
+ghost use Rattle.route_choice.specs.Contents.{newest_moment as newest_failure};
 ghost use Rattle.router_core.specs.OpenConnections.{most_sends};
 
 use crate::StepFault;
 use crate::effect::take_fact;
+use crate::notes::{age_in, is_change, note_change, note_failures, note_value};
 use crate::reason::{newest_after, reason_of};
 use crate::settling::settle;
 use crate::step_state::StepState;
 use crate::tables::Tables;
 use crate::waiting::Waiting;
 use alt_base::{ListOf, Moment};
-use route_events::{Actions, Fact};
+use network_cache::Cache;
+use route_choice::Broken;
+use route_events::{Actions, Fact, Request};
 use std::alloc::Global;
 
 /// The client. It is told what happened, step by step, and answers what to do.
@@ -21,13 +26,24 @@ pub struct Router {
     newest: u32,
     tables: Tables,
     waiting: ListOf<Waiting>,
+    sent: ListOf<Request>,
+    alternatives: Cache,
+    broken: Broken,
     ghost bounded: { facts ≤ 16777215 },
     ghost few_sends: { most_sends tables.connections + length waiting ≤ facts },
     ghost few_attempts: { tables.opened ≤ facts * 16777216 },
+    ghost alternatives_known: { newest_moment alternatives ≤ last },
+    ghost failures_known: { newest_failure broken ≤ last },
 }
 
 impl Router {
-    ghost use Rattle.route_events.specs.Journal.{Journal};
+    ghost use Rattle.origin_values.specs.declared.origin.Origin.{Origin as OriginValue};
+    ghost use Rattle.network_cache.specs.Contents.{live};
+    ghost use Rattle.route_choice.specs.Contents.{kept_failures};
+    ghost use Rattle.route_events.specs.declared.route.Route.{Route as RouteValue};
+    ghost use Rattle.route_events.specs.Alternatives.{live as journal_live};
+    ghost use Rattle.route_events.specs.Backoff.{is_barred_by, is_broken};
+    ghost use Rattle.route_events.specs.Journal.{Journal, newest_moment as newest_step};
     ghost use Rattle.route_events.specs.Step.{step};
     ghost use Rattle.route_events.specs.Headline.{SendsOnlyOn, RefusesOnlyWhere, WaitsOnlyFor};
     ghost use Rattle.router_core.specs.Becomes.{Becomes};
@@ -49,6 +65,9 @@ impl Router {
                 connections: ListOf::new(alloc),
             },
             waiting: ListOf::new(alloc),
+            sent: ListOf::new(alloc),
+            alternatives: Cache::new(alloc),
+            broken: Broken::new(alloc),
         }
     }
 
@@ -57,9 +76,9 @@ impl Router {
     /// after it.
     ///
     /// A step is refused where 16,777,215 facts were taken, where the moment is before that of the newest step, where a
-    /// request's number isn't above the newest request's, where an attempt that ends isn't pending, and where a
-    /// connection that ends isn't open, tried in this order; the router comes back as it was. After NoMemory it is
-    /// gone.
+    /// request's number isn't above the newest request's, where an attempt that ends isn't pending, where a connection
+    /// that ends isn't open, and where a request that is answered isn't outstanding, tried in this order; the router comes
+    /// back as it was. After NoMemory it is gone.
     pub fn step(self, now: Moment, fact: Fact) -> Result<(Router, Actions), StepFault>
         ensures taken { IfOk result (λ r. (journal : Journal) → StandsFor self journal → Takes r.0 r.1 journal now.0 fact) }
         ensures refused { IfErr result (λ fault. Refuses self now.0 fact fault) }
@@ -69,7 +88,15 @@ impl Router {
         ensures refused_only_where { IfOk result (λ r. (journal : Journal) → StandsFor self journal → RefusesOnlyWhere (step journal now.0 fact)) }
         ensures waits_only_for { IfOk result (λ r. (journal : Journal) → StandsFor self journal → WaitsOnlyFor (step journal now.0 fact)) }
     {
-        let reason = reason_of(self.facts, self.last, self.newest, &self.tables, now, &fact);
+        let reason = reason_of(
+            self.facts,
+            self.last,
+            self.newest,
+            &self.tables,
+            &self.sent,
+            now,
+            &fact,
+        );
         if let Some(refusal) = reason {
             return Err(StepFault::Refused {
                 router: self,
@@ -79,13 +106,31 @@ impl Router {
         self.take(now, fact)
     }
 
+    /// What is known of the alternatives of origins: at each moment from that of the newest step on, what the journal says
+    /// is live. It takes no memory.
+    pub fn alternatives(&self) -> &Cache
+        ensures live { (journal : Journal) → StandsFor self.now journal → (o : OriginValue) (at : ℕ) → newest_step journal ≤ at → live result.now o at ≡ journal_live journal o at }
+    {
+        &self.alternatives
+    }
+
+    /// What is known of failed routes: at each moment from that of the newest step on, what the journal says is broken. It
+    /// takes no memory.
+    pub fn broken(&self) -> &Broken
+        ensures broken { (journal : Journal) → StandsFor self.now journal → (o : OriginValue) (r : RouteValue) (at : ℕ) → is_barred_by (kept_failures result.now o r) r at ≡ is_broken journal o r at }
+    {
+        &self.broken
+    }
+
     // A step that isn't refused.
     fn take(self, now: Moment, fact: Fact) -> Result<(Router, Actions), StepFault>
-        requires { reason_of self.facts self.last self.newest self.tables now.0 fact ≡ None }
+        requires { reason_of self.facts self.last self.newest self.tables self.sent now.0 fact ≡ None }
         ensures ok { IfOk result (λ r. Becomes self r.0 r.1 now.0 fact) }
         ensures err { IfErr result (λ fault. fault ≡ StepFault.NoMemory) }
     {
         let newest = newest_after(self.newest, &fact);
+        let age = age_in(&fact);
+        let changed = is_change(&fact);
         let Router {
             alloc,
             facts,
@@ -93,17 +138,26 @@ impl Router {
             newest: _,
             tables,
             waiting,
+            sent,
+            mut alternatives,
+            mut broken,
         } = self;
         let mut state = StepState {
             tables,
             waiting,
+            sent,
             actions: ListOf::new(alloc),
         };
-        take_fact(alloc, &mut state, fact)?;
-        settle(alloc, &mut state)?;
+        note_failures(&mut broken, now, state.tables.pending.as_slice(), &fact)?;
+        take_fact(alloc, &alternatives, now, &mut state, fact)?;
+        note_change(&mut alternatives, changed);
+        note_value(alloc, &mut alternatives, now, age, state.actions.as_slice())?;
+        settle(alloc, &alternatives, &broken, now, &mut state)?;
+        alternatives.purge(now);
         let StepState {
             tables,
             waiting,
+            sent,
             actions,
         } = state;
         Ok((
@@ -114,6 +168,9 @@ impl Router {
                 newest,
                 tables,
                 waiting,
+                sent,
+                alternatives,
+                broken,
             },
             actions,
         ))

@@ -46,7 +46,7 @@ pub(crate) fn note_action(
             tables.pending.push(Attempt {
                 number: *attempt,
                 origin: origin.copy(alloc)?,
-                route: *route,
+                route: route.copy(alloc)?,
             })?;
             tables.opened = *attempt;
         }
@@ -56,7 +56,7 @@ pub(crate) fn note_action(
             note_sends(&mut sent, *conn, *request)?;
             tables.connections = ListOf::from_vec(sent);
         }
-        Action::Refuse { .. } | Action::Lost { .. } => {}
+        _ => {}
     }
     Ok(())
 }

@@ -1,4 +1,5 @@
 use Rattle.std.proofs.Common.{ap, sym, ◌∙◌, length, arith}
+use Rattle.router_core.specs.Looks.{Look, look_of}
 use Rattle.router_core.specs.StepStates.{settle_over}
 use Rattle.router_core.proofs.Bounds.{settled_opened, settled_sends}
 use Rattle.router_core.proofs.settling.settle.Goals as goal
@@ -15,11 +16,12 @@ settle_one-requires-clause-sends c =
 
 pub loop-request-preserved : goal.loop-request-preserved
 loop-request-preserved c =
+    let look : Look = look_of c.args.cache.now c.args.broken.now c.args.now.0 in
     let rest = ap length c.in-Some.ensures.steps.0 in
-    let more = settled_opened c.loop-request.state c.in-Some.request in
-    let sends = settled_sends c.loop-request.state c.in-Some.request in
+    let more = settled_opened look c.loop-request.state c.in-Some.request in
+    let sends = settled_sends look c.loop-request.state c.in-Some.request in
     rw c.in_ok-settle_one.ensures (
-      ap (settle_over c.loop-request.state) (sym c.in-Some.ensures.steps.0) ∙ c.loop-request.invariant.0,
+      ap (settle_over look c.loop-request.state) (sym c.in-Some.ensures.steps.0) ∙ c.loop-request.invariant.0,
       omega (arith, rest, more, c.loop-request.invariant.1),
       omega (arith, rest, sends, c.loop-request.invariant.2),
     )

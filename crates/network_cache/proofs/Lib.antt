@@ -1,0 +1,4 @@
+pub mod Lists
+pub mod Origins
+mod Lookups
+pub mod Totals

@@ -1,0 +1,161 @@
+-- The sum over origins is one, whichever are summed over, and over entries it is the entries' sum.
+use Rattle.std.proofs.Common.{◌≡◌, ℕ, ◌+◌, ◌<◌, ◌≤◌, Bool, true, false, cond, ◌||◌, ◌&&◌, not, List, [], ◌∷◌, map, filter, length, take, get_or, zero, suc, add-one, sum_by, refl, ap, sym, ◌∙◌, arith}
+use Rattle.std.specs.Prelude.{min}
+use Rattle.std.proofs.lemmas.List.{length-map}
+use Rattle.std.proofs.lemmas.List.Sums.{sum_by-cons}
+use Rattle.origin_values.specs.declared.origin.Origin.{Origin}
+use Rattle.origin_values.specs.Equality.{origin_eq}
+use Rattle.network_cache.specs.declared.kept.Kept.{Kept}
+use Rattle.network_cache.specs.declared.entry.Entry.{Entry}
+use Rattle.network_cache.specs.declared.cache.Cache.{Cache}
+use Rattle.network_cache.specs.Freshness.{is_fresh}
+use Rattle.network_cache.specs.Origins.{is_among, are_distinct}
+use Rattle.network_cache.specs.Entries.{origins_of, kept_in, fresh_in}
+use Rattle.network_cache.specs.Contents.{kept, live, IsTotal, HoldsFresh}
+use Rattle.network_cache.proofs.Lists.{contradicts, or_left, or_right, neither, and_left, and_right, both, from_not, not_from, fresh_later}
+use Rattle.network_cache.proofs.Origins.{one_origin, own_origin, along, along_right, other_than}
+
+-- sums over origins
+
+sum_same : (f g : Origin → ℕ) (os : List Origin) → ((o : Origin) → is_among o os ≡ true → f o ≡ g o) → sum_by f os ≡ sum_by g os
+sum_same f g [] h = refl
+sum_same f g (o ∷ os) h =
+    let first = h o (or_left (origin_eq o o) (is_among o os) (own_origin o)) in
+    let rest = sum_same f g os (λ q found. h q (or_right (origin_eq q o) (is_among q os) found)) in
+    omega (arith, sum_by-cons f o os, sum_by-cons g o os, first, rest)
+
+sum_none : (f : Origin → ℕ) (os : List Origin) → ((o : Origin) → is_among o os ≡ true → f o ≡ 0) → sum_by f os ≡ 0
+sum_none f [] h = refl
+sum_none f (o ∷ os) h =
+    let first = h o (or_left (origin_eq o o) (is_among o os) (own_origin o)) in
+    let rest = sum_none f os (λ q found. h q (or_right (origin_eq q o) (is_among q os) found)) in
+    omega (arith, sum_by-cons f o os, first, rest)
+
+abbrev without : Origin → List Origin → List Origin
+without o os = filter (λ q. not (origin_eq o q)) os
+
+among_without : (q o : Origin) (os : List Origin) → is_among q (without o os) ≡ (not (origin_eq q o) && is_among q os)
+among_without q o [] = by_test (origin_eq q o)
+  where
+    by_test : (w : Bool) → false ≡ (not w && false)
+    by_test true = refl
+    by_test false = refl
+among_without q o (p ∷ ps) = by_tests (origin_eq o p) (origin_eq q p) (origin_eq q o) refl refl refl (among_without q o ps)
+  where
+    by_tests : (a b w : Bool) → origin_eq o p ≡ a → origin_eq q p ≡ b → origin_eq q o ≡ w → is_among q (without o ps) ≡ (not w && is_among q ps) → is_among q (cond (not a) (p ∷ without o ps) (without o ps)) ≡ (not w && (b || is_among q ps))
+    by_tests true b true op qp qo rest = rest
+    by_tests true true false op qp qo rest = contradicts (origin_eq q o) (along_right q o p op ∙ qp) qo
+    by_tests true false false op qp qo rest = rest
+    by_tests false true true op qp qo rest = contradicts (origin_eq o p) (sym (along q o p qo) ∙ qp) op
+    by_tests false true false op qp qo rest = rw qp refl
+    by_tests false false w op qp qo rest = rw qp rest
+
+distinct_without : (o : Origin) (os : List Origin) → are_distinct os ≡ true → are_distinct (without o os) ≡ true
+distinct_without o [] h = refl
+distinct_without o (p ∷ ps) h = by_test (origin_eq o p) (distinct_without o ps (and_right (not (is_among p ps)) (are_distinct ps) h))
+  where
+    alone : is_among p ps ≡ false
+    alone = from_not (is_among p ps) (and_left (not (is_among p ps)) (are_distinct ps) h)
+
+    fewer : (a b : Bool) → b ≡ false → (a && b) ≡ false
+    fewer true b h = h
+    fewer false b h = refl
+
+    by_test : (a : Bool) → are_distinct (without o ps) ≡ true → are_distinct (cond (not a) (p ∷ without o ps) (without o ps)) ≡ true
+    by_test true rest = rest
+    by_test false rest = both (not (is_among p (without o ps))) (are_distinct (without o ps)) (not_from (is_among p (without o ps)) (among_without p o ps ∙ fewer (not (origin_eq p o)) (is_among p ps) alone)) rest
+
+sum_without : (f : Origin → ℕ) (o : Origin) (os : List Origin) → are_distinct os ≡ true → sum_by f os ≡ cond (is_among o os) (f o) 0 + sum_by f (without o os)
+sum_without f o [] h = refl
+sum_without f o (p ∷ ps) h = by_test (origin_eq o p) refl (sum_without f o ps (and_right (not (is_among p ps)) (are_distinct ps) h))
+  where
+    alone : is_among p ps ≡ false
+    alone = from_not (is_among p ps) (and_left (not (is_among p ps)) (are_distinct ps) h)
+
+    by_test : (a : Bool) → origin_eq o p ≡ a → sum_by f ps ≡ cond (is_among o ps) (f o) 0 + sum_by f (without o ps) → sum_by f (p ∷ ps) ≡ cond (a || is_among o ps) (f o) 0 + sum_by f (cond (not a) (p ∷ without o ps) (without o ps))
+    by_test true op rest =
+        let same : f o ≡ f p = ap f (one_origin o p op) in
+        let none : cond (is_among o ps) (f o) 0 ≡ 0 = ap (λ w. cond w (f o) 0) (ap (λ (x : Origin). is_among x ps) (one_origin o p op) ∙ alone) in
+        omega (arith, sum_by-cons f p ps, same, none, rest)
+    by_test false op rest = omega (arith, sum_by-cons f p ps, sum_by-cons f p (without o ps), rest)
+
+-- two lists of origins outside of which there is nothing have one sum
+one_sum : (f : Origin → ℕ) (os ps : List Origin) → are_distinct os ≡ true → are_distinct ps ≡ true
+    → ((q : Origin) → is_among q os ≡ true → is_among q ps ≡ false → f q ≡ 0) → ((q : Origin) → is_among q ps ≡ true → is_among q os ≡ false → f q ≡ 0) → sum_by f os ≡ sum_by f ps
+one_sum f [] ps h k outside inside = sym (sum_none f ps (λ q found. inside q found refl))
+one_sum f (o ∷ os) ps h k outside inside =
+    let rest = one_sum f os (without o ps) (and_right (not (is_among o os)) (are_distinct os) h) (distinct_without o ps k) others_outside others_inside in
+    let here = first (is_among o ps) refl in
+    omega (arith, sum_by-cons f o os, sum_without f o ps k, rest, here)
+  where
+    alone : is_among o os ≡ false
+    alone = from_not (is_among o os) (and_left (not (is_among o os)) (are_distinct os) h)
+
+    first : (w : Bool) → is_among o ps ≡ w → cond (is_among o ps) (f o) 0 ≡ f o
+    first true e = rw e refl
+    first false e = rw e (sym (outside o (or_left (origin_eq o o) (is_among o os) (own_origin o)) e))
+
+    others_outside : (q : Origin) → is_among q os ≡ true → is_among q (without o ps) ≡ false → f q ≡ 0
+    others_outside q found none =
+        let other : origin_eq q o ≡ false = other_than o q os alone found in
+        outside q (or_right (origin_eq q o) (is_among q os) found) (sym (ap (λ w. not w && is_among q ps) other) ∙ sym (among_without q o ps) ∙ none)
+
+    others_inside : (q : Origin) → is_among q (without o ps) ≡ true → is_among q os ≡ false → f q ≡ 0
+    others_inside q found none =
+        let parts : (not (origin_eq q o) && is_among q ps) ≡ true = sym (among_without q o ps) ∙ found in
+        inside q (and_right (not (origin_eq q o)) (is_among q ps) parts) (neither (origin_eq q o) (is_among q os) (from_not (origin_eq q o) (and_left (not (origin_eq q o)) (is_among q ps) parts)) none)
+
+nothing_live : (now : ℕ) (ks : List Kept) → ks ≡ [] → length (map (λ (k : Kept). k.alt) (filter (is_fresh now) ks)) ≡ 0
+nothing_live now ks h = rw h refl
+
+pub one_total_of : (cache : Cache) (now m n : ℕ) → IsTotal cache now m → IsTotal cache now n → m ≡ n
+one_total_of cache now m n a b =
+    a.sum
+    ∙ one_sum (λ o. length (live cache o now)) a.origins b.origins a.distinct b.distinct (λ q found none. nothing_live now (kept cache q) (b.elsewhere q none)) (λ q found none. nothing_live now (kept cache q) (a.elsewhere q none))
+    ∙ sym b.sum
+
+-- to drop what isn't fresh changes no later answer
+
+pub live_later : (old new : Cache) (now t : ℕ) → now ≤ t → HoldsFresh old new now → (o : Origin) → live new o t ≡ live old o t
+live_later old new now t h fresh o = ap (λ (ks : List Kept). map (λ (k : Kept). k.alt) (filter (is_fresh t) ks)) (fresh o) ∙ ap (λ (ks : List Kept). map (λ (k : Kept). k.alt) ks) (fresh_later now t (kept old o) h)
+
+pub total_later : (old new : Cache) (now t n : ℕ) → now ≤ t → HoldsFresh old new now → IsTotal old t n → IsTotal new t n
+total_later old new now t n h fresh total = record {
+  origins = total.origins;
+  distinct = total.distinct;
+  elsewhere = λ o none. fresh o ∙ ap (filter (is_fresh now)) (total.elsewhere o none);
+  sum = total.sum ∙ sum_same (λ o. length (live old o t)) (λ o. length (live new o t)) total.origins (λ o found. ap length (sym (live_later old new now t h fresh o)));
+}
+
+-- the sum over the entries
+
+pub fresh_more : (now : ℕ) (es : List Entry) (i : ℕ) (d : Entry) → i < length es → fresh_in now (take (i + 1) es) ≡ fresh_in now (take i es) + length (filter (is_fresh now) (get_or es i d).alternatives)
+fresh_more now es i d within = rw add-one (one_more es i within)
+  where
+    one_more : (es : List Entry) (i : ℕ) → i < length es → fresh_in now (take (suc i) es) ≡ fresh_in now (take i es) + length (filter (is_fresh now) (get_or es i d).alternatives)
+    one_more [] i within = absurd (omega arith)
+    one_more (e ∷ es) zero within = omega arith
+    one_more (e ∷ es) (suc i) within = omega (arith, one_more es i (omega arith))
+
+-- a sum that stays at its greatest
+pub capped : (a b t r m : ℕ) → t ≡ min a m → r ≡ min (t + b) m → r ≡ min (a + b) m
+capped a b t r m h k = grind arith
+
+abbrev fresh_of : ℕ → List Entry → Origin → ℕ
+fresh_of now es o = length (map (λ (k : Kept). k.alt) (filter (is_fresh now) (kept_in es o)))
+
+pub fresh_sum : (now : ℕ) (es : List Entry) → are_distinct (origins_of es) ≡ true → fresh_in now es ≡ sum_by (λ o. length (map (λ (k : Kept). k.alt) (filter (is_fresh now) (kept_in es o)))) (origins_of es)
+fresh_sum now [] h = refl
+fresh_sum now (e ∷ es) h =
+    let rest = fresh_sum now es (and_right (not (is_among e.origin (origins_of es))) (are_distinct (origins_of es)) h) in
+    let same = sum_same (fresh_of now es) (fresh_of now (e ∷ es)) (origins_of es) (λ o found. elsewhere o found) in
+    omega (arith, sum_by-cons (fresh_of now (e ∷ es)) e.origin (origins_of es), rest, same, here)
+  where
+    here : fresh_of now (e ∷ es) e.origin ≡ length (filter (is_fresh now) e.alternatives)
+    here = rw (own_origin e.origin) (length-map (filter (is_fresh now) e.alternatives) (λ (k : Kept). k.alt))
+
+    alone : is_among e.origin (origins_of es) ≡ false
+    alone = from_not (is_among e.origin (origins_of es)) (and_left (not (is_among e.origin (origins_of es))) (are_distinct (origins_of es)) h)
+
+    elsewhere : (o : Origin) → is_among o (origins_of es) ≡ true → fresh_of now es o ≡ fresh_of now (e ∷ es) o
+    elsewhere o found = ap (λ w. length (map (λ (k : Kept). k.alt) (filter (is_fresh now) (cond w e.alternatives (kept_in es o))))) (sym (other_than e.origin o (origins_of es) alone found))

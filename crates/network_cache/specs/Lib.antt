@@ -1,0 +1,4 @@
+pub mod Freshness
+pub mod Origins
+pub mod Entries
+pub mod Contents

@@ -1,0 +1,9 @@
+pub mod Backoffs
+pub mod Lists
+pub mod Same
+pub mod Lookups
+pub mod PairLists
+pub mod Distinct
+pub mod Totals
+pub mod Places
+pub mod Bests

@@ -1,0 +1,138 @@
+-- What a step notes of failures and alternatives is what the journal says from then on.
+use Rattle.std.proofs.Common.{◌≡◌, ℕ, ◌+◌, ◌-◌, ◌≤◌, Bool, true, false, cond, not, ◌&&◌, nat_lt, List, [], ◌∷◌, ◌++◌, map, filter, Option, Some, None, refl, ap, sym, ◌∙◌, arith, min}
+use Rattle.std.specs.Option.{option_map, option_map_or}
+use Rattle.coalescing.specs.declared.cert_name.CertName.{CertName}
+use Rattle.origin_values.specs.Equality.{origin_eq}
+use Rattle.origin_values.specs.declared.address.Addr.{Addr}
+use Rattle.origin_values.specs.declared.origin.Origin.{Origin}
+use Rattle.origin_values.specs.declared.proto.Proto.{Proto}
+use Rattle.altsvc_grammar.specs.declared.alt.Alt.{Alt}
+use Rattle.altsvc_grammar.specs.declared.alt_svc.AltSvc.{AltSvc}
+use Rattle.network_cache.specs.declared.cache.Cache.{Cache}
+use Rattle.network_cache.specs.declared.kept.Kept.{Kept}
+use Rattle.network_cache.specs.Freshness.{taken_at, is_fresh, persists}
+use Rattle.network_cache.specs.Contents.{kept}
+use Rattle.network_cache.proofs.Origins.{turned, turned_not}
+use Rattle.route_choice.specs.Capped.{capped}
+use Rattle.route_events.specs.declared.fact.Fact.{Fact}
+use Rattle.route_events.specs.declared.fact.Fact.TheVariants as fact
+use Rattle.route_events.specs.declared.action.Action.{Action}
+use Rattle.route_events.specs.declared.action.Action.TheVariants.{Lost, Alternatives, Field}
+use Rattle.route_events.specs.declared.route.Route.{Route}
+use Rattle.route_events.specs.declared.attempt.Attempt.{Attempt}
+use Rattle.route_events.specs.Journal.{Happened, Taken, Journal}
+use Rattle.route_events.specs.Attempts.{pending_attempt}
+use Rattle.route_events.specs.Alternatives.{alternatives_of, age_in, live}
+use Rattle.route_events.specs.Alternatives as journal
+use Rattle.route_events.specs.Authority.{route_eq}
+use Rattle.route_events.specs.Backoff.{Failures, no_failures, failed_at, failures, failures_after, is_on}
+use Rattle.route_events.specs.Connections.{outstanding}
+use Rattle.route_events.specs.Step.{with_actions, effects}
+use Rattle.route_events.proofs.Lists.{filter_same, filter_twice}
+use Rattle.router_core.specs.declared.tables.Tables.{Tables}
+use Rattle.router_core.specs.OpenConnections.{succeeds}
+use Rattle.router_core.specs.StepStates.{attempt_among}
+use Rattle.router_core.specs.Tables.{Hold}
+use Rattle.router_core.specs.Notes.{end_noted, failure_noted, opening_noted, failures_noted, value_noted, kept_after}
+use Rattle.router_core.proofs.Listing.{filter_map}
+use Rattle.router_core.proofs.Answering.{IsAnswer, answer_is}
+
+-- failures
+
+failures_with : (j : Journal) (as' : List Action) (o : Origin) (r : Route) → failures (with_actions j as') o r ≡ failures j o r
+failures_with j [] o r = refl
+failures_with j (a ∷ as') o r = failures_with (Taken a ∷ j) as' o r
+
+failing_once_more : (now : ℕ) (f : Failures) → capped (failed_at now (capped f)) ≡ capped (failed_at now f)
+failing_once_more now f = λ i. record { count = least f.count i; last = now }
+  where
+    least : (n : ℕ) → min 11 (min 11 n + 1) ≡ min 11 (n + 1)
+    least n = grind arith
+
+ended_capped : (now : ℕ) (on success : Bool) (f : Failures) →
+    cond on (cond success no_failures (capped (failed_at now (capped f)))) (capped f) ≡ capped (cond on (cond success no_failures (failed_at now f)) f)
+ended_capped now true true f = refl
+ended_capped now true false f = failing_once_more now f
+ended_capped now false success f = refl
+
+opening_capped : (j : Journal) (now m : ℕ) (p : Proto) (d : Addr) (port : ℕ) (names : List CertName) (o : Origin) (r : Route) (f : Failures) (v : Option Attempt) → pending_attempt j m ≡ v →
+    opening_noted now v p names o r (capped f) ≡ capped (failures_after j o r now (fact.Opened m p d port names) f)
+opening_capped j now m p d port names o r f None e = rw e refl
+opening_capped j now m p d port names o r f (Some a) e = rw e (ended_capped now (is_on o r a) (succeeds a.origin a.route p names) f)
+
+failing_capped : (j : Journal) (now m : ℕ) (o : Origin) (r : Route) (f : Failures) (v : Option Attempt) → pending_attempt j m ≡ v →
+    failure_noted now v o r (capped f) ≡ capped (failures_after j o r now (fact.Failed m) f)
+failing_capped j now m o r f None e = rw e refl
+failing_capped j now m o r f (Some a) e = rw e (ended_capped now (is_on o r a) false f)
+
+noted_capped : (t : Tables) (j : Journal) (now : ℕ) (f : Fact) (o : Origin) (r : Route) (fs : Failures) → Hold t j → failures_noted t.pending now f o r (capped fs) ≡ capped (failures_after j o r now f fs)
+noted_capped t j now (fact.Request n p) o r fs hold = refl
+noted_capped t j now (fact.Opened m p d port names) o r fs hold =
+    ap (λ as'. opening_noted now (attempt_among as' m) p names o r (capped fs)) hold.pending ∙ opening_capped j now m p d port names o r fs (pending_attempt j m) refl
+noted_capped t j now (fact.Failed m) o r fs hold =
+    ap (λ as'. failure_noted now (attempt_among as' m) o r (capped fs)) hold.pending ∙ failing_capped j now m o r fs (pending_attempt j m) refl
+noted_capped t j now (fact.Closed c) o r fs hold = refl
+noted_capped t j now (fact.Response q status age altsvc) o r fs hold = refl
+noted_capped t j now fact.Network o r fs hold = refl
+noted_capped t j now fact.Tick o r fs hold = refl
+
+pub failures_noted_are : (t : Tables) (j : Journal) (now : ℕ) (f : Fact) (o : Origin) (r : Route) (fs : Failures) → Hold t j → fs ≡ capped (failures j o r) →
+    failures_noted t.pending now f o r fs ≡ capped (failures (with_actions (Happened now f true ∷ j) (effects j now f)) o r)
+failures_noted_are t j now f o r fs hold e =
+    ap (failures_noted t.pending now f o r) e ∙ noted_capped t j now f o r (failures j o r) hold ∙ ap capped (sym (failures_with (Happened now f true ∷ j) (effects j now f) o r))
+
+-- alternatives
+
+abbrev pub fresh_alts : ℕ → List Kept → List Alt
+fresh_alts now ks = map (λ (k : Kept). k.alt) (filter (is_fresh now) ks)
+
+taken_fresh : (now age at : ℕ) (alts : List Alt) → fresh_alts at (map (taken_at now age) alts) ≡ filter (journal.is_fresh now age at) alts
+taken_fresh now age at alts = ap (map (λ (k : Kept). k.alt)) (filter_map (is_fresh at) (taken_at now age) alts) ∙ back (filter (journal.is_fresh now age at) alts)
+  where
+    back : (xs : List Alt) → map (λ (k : Kept). k.alt) (map (taken_at now age) xs) ≡ xs
+    back [] = refl
+    back (x ∷ xs) = ap (λ ys. x ∷ ys) (back xs)
+
+persistent_fresh : (at : ℕ) (ks : List Kept) → fresh_alts at (filter persists ks) ≡ filter (λ (a : Alt). a.persist) (fresh_alts at ks)
+persistent_fresh at ks =
+    ap (map (λ (k : Kept). k.alt))
+    (filter_twice (is_fresh at) persists ks
+    ∙ filter_same (λ k. persists k && is_fresh at k) (λ k. is_fresh at k && persists k) ks (λ k. turned_and (persists k) (is_fresh at k))
+    ∙ sym (filter_twice persists (is_fresh at) ks))
+    ∙ sym (filter_map (λ (a : Alt). a.persist) (λ (k : Kept). k.alt) (filter (is_fresh at) ks))
+  where
+    turned_and : (a b : Bool) → (a && b) ≡ (b && a)
+    turned_and true true = refl
+    turned_and true false = refl
+    turned_and false true = refl
+    turned_and false false = refl
+
+lost_live : (j : Journal) (qs : List ℕ) (o : Origin) (at : ℕ) → live (with_actions j (map Lost qs)) o at ≡ live j o at
+lost_live j [] o at = refl
+lost_live j (q ∷ qs) o at = lost_live (Taken (Lost q) ∷ j) qs o at
+
+answered_live : (j : Journal) (now q status age : ℕ) (altsvc : Option (List ℕ)) (o : Origin) (at : ℕ) (ks : List Kept) (as' : List Action) → IsAnswer as' → fresh_alts at ks ≡ live j o at →
+    fresh_alts at (value_noted now age as' o ks) ≡ live (with_actions (Happened now (fact.Response q status age altsvc) true ∷ j) as') o at
+answered_live j now q status age altsvc o at ks [] h e = e
+answered_live j now q status age altsvc o at ks (Field r reason place ∷ []) h e = e
+answered_live j now q status age altsvc o at ks (Alternatives p value ∷ []) h e = by_test (origin_eq p o) refl
+  where
+    by_test : (b : Bool) → origin_eq p o ≡ b → fresh_alts at (cond (origin_eq o p) (map (taken_at now age) (alternatives_of value)) ks) ≡ cond b (filter (journal.is_fresh now age at) (alternatives_of value)) (live j o at)
+    by_test true is = rw (turned p o is) (taken_fresh now age at (alternatives_of value))
+    by_test false is = rw (turned_not p o is) e
+answered_live j now q status age altsvc o at ks _ h e = absurd h
+
+lost_noted : (now age : ℕ) (qs : List ℕ) (o : Origin) (ks : List Kept) → value_noted now age (map Lost qs) o ks ≡ ks
+lost_noted now age [] o ks = refl
+lost_noted now age (q ∷ qs) o ks = refl
+
+pub live_noted : (j : Journal) (now : ℕ) (f : Fact) (o : Origin) (at : ℕ) (ks : List Kept) → fresh_alts at ks ≡ live j o at →
+    fresh_alts at (value_noted now (age_in f) (effects j now f) o (kept_after f ks)) ≡ live (with_actions (Happened now f true ∷ j) (effects j now f)) o at
+live_noted j now (fact.Request n p) o at ks e = e
+live_noted j now (fact.Opened m p d port names) o at ks e = e
+live_noted j now (fact.Failed m) o at ks e = e
+live_noted j now (fact.Closed c) o at ks e =
+    ap (fresh_alts at) (lost_noted now 0 (outstanding j c) o ks) ∙ e ∙ sym (lost_live (Happened now (fact.Closed c) true ∷ j) (outstanding j c) o at)
+live_noted j now (fact.Response q status age altsvc) o at ks e = answered_live j now q status age altsvc o at ks (effects j now (fact.Response q status age altsvc)) (answer_is j now q status altsvc) e
+live_noted j now fact.Network o at ks e = persistent_fresh at ks ∙ ap (filter (λ (a : Alt). a.persist)) e
+live_noted j now fact.Tick o at ks e = e

@@ -1,0 +1,51 @@
+-- What a step notes of failures and alternatives, for the steps to come.
+use Rattle.std.specs.Prelude.{ℕ, Bool, true, false, List, [], ◌∷◌, map, filter, Option, Some, None, if◌then◌else◌}
+use Rattle.coalescing.specs.declared.cert_name.CertName.{CertName}
+use Rattle.origin_values.specs.Equality.{origin_eq}
+use Rattle.origin_values.specs.declared.origin.Origin.{Origin}
+use Rattle.origin_values.specs.declared.proto.Proto.{Proto}
+use Rattle.network_cache.specs.declared.kept.Kept.{Kept}
+use Rattle.network_cache.specs.Freshness.{taken_at, persists}
+use Rattle.route_choice.specs.Capped.{capped}
+use Rattle.route_events.specs.declared.fact.Fact.{Fact}
+use Rattle.route_events.specs.declared.fact.Fact.TheVariants.{Opened, Failed, Response, Network}
+use Rattle.route_events.specs.declared.action.Action.{Action}
+use Rattle.route_events.specs.declared.action.Action.TheVariants.{Alternatives}
+use Rattle.route_events.specs.declared.route.Route.{Route}
+use Rattle.route_events.specs.declared.attempt.Attempt.{Attempt}
+use Rattle.route_events.specs.Alternatives.{alternatives_of}
+use Rattle.route_events.specs.Backoff.{Failures, no_failures, failed_at, is_on}
+use Rattle.router_core.specs.OpenConnections.{succeeds}
+use Rattle.router_core.specs.StepStates.{attempt_among}
+
+-- an attempt that succeeds ends the failures of its origin's route, and one that doesn't is one more
+abbrev pub end_noted : ℕ → Bool → Attempt → Origin → Route → Failures → Failures
+end_noted now success a o r f = if is_on o r a then (if success then no_failures else capped (failed_at now f)) else f
+
+abbrev pub failure_noted : ℕ → Option Attempt → Origin → Route → Failures → Failures
+failure_noted now None o r f = f
+failure_noted now (Some a) o r f = end_noted now false a o r f
+
+abbrev pub opening_noted : ℕ → Option Attempt → Proto → List CertName → Origin → Route → Failures → Failures
+opening_noted now None proto names o r f = f
+opening_noted now (Some a) proto names o r f = end_noted now (succeeds a.origin a.route proto names) a o r f
+
+-- the failures of an origin's route after a fact, where these attempts were pending
+abbrev pub failures_noted : List Attempt → ℕ → Fact → Origin → Route → Failures → Failures
+failures_noted attempts now (Opened attempt proto addr port names) o r f = opening_noted now (attempt_among attempts attempt) proto names o r f
+failures_noted attempts now (Failed attempt) o r f = failure_noted now (attempt_among attempts attempt) o r f
+failures_noted attempts now Network o r f = no_failures
+failures_noted attempts now _ o r f = f
+
+-- the alternatives that are kept for an origin after the actions of a fact: those of a value that is taken for it
+abbrev pub value_noted : ℕ → ℕ → List Action → Origin → List Kept → List Kept
+value_noted now age (Alternatives p value ∷ actions) o ks = if origin_eq o p then map (taken_at now age) (alternatives_of value) else ks
+value_noted now age _ o ks = ks
+
+-- those that a fact leaves: the network may change
+abbrev pub is_change : Fact → Bool
+is_change Network = true
+is_change _ = false
+
+abbrev pub kept_after : Fact → List Kept → List Kept
+kept_after fact ks = if is_change fact then filter persists ks else ks
