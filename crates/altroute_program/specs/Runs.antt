@@ -1,15 +1,16 @@
 -- What each status of a run says, by the command.
 use Rattle.std.specs.Prelude.{◌≡◌, ◌⊎◌, ℕ, true, List, Option, Some, None}
 use Rattle.alt_base.specs.Faults.{Rose}
-use Rattle.altroute_program.specs.declared.status.Status.{Status}
-use Rattle.altroute_program.specs.declared.status.Status.TheVariants.{Done, Usage, NoMemory}
+use Rattle.altroute_show.specs.declared.status.Status.{Status}
+use Rattle.altroute_show.specs.declared.status.Status.TheVariants.{Done, Usage, NoMemory}
 use Rattle.altroute_program.specs.declared.command.Command.{Command}
 use Rattle.altroute_program.specs.declared.command.Command.TheVariants.{Replay, ShowFrames, Whole}
 use Rattle.altroute_program.specs.Outcome.{outcome, stop_of}
-use Rattle.altroute_program.specs.Ends.{Seen, ReplayEnds}
-use Rattle.altroute_program.specs.FrameEnds.{FrameEnds, AreComplete}
-use Rattle.altroute_program.specs.Given.{given_for}
-use Rattle.altroute_program.specs.WholeInput.{WholeEnds, IsWholeComplete}
+use Rattle.altroute_show.specs.Seen.{Seen}
+use Rattle.altroute_program.specs.Ends.{ReplayEnds}
+use Rattle.altroute_show.specs.FrameEnds.{FrameEnds, AreComplete}
+use Rattle.altroute_show.specs.Given.{given_for}
+use Rattle.altroute_show.specs.WholeInput.{WholeEnds, IsWholeComplete}
 
 -- the statuses of a run: where the words are no command, nothing is read or written
 abbrev pub RunEnds : Option Command → Status → Seen → Seen → Type 0
