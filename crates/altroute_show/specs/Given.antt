@@ -4,7 +4,7 @@ use Rattle.std.specs.Fmt.{decimal}
 use Rattle.alt_base.specs.declared.refusal.At.{At}
 use Rattle.altsvc_grammar.specs.declared.alt_svc.AltSvc.{AltSvc}
 use Rattle.altsvc_grammar.specs.declared.refusal.AltRefusal.{AltRefusal}
-use Rattle.altsvc_grammar.specs.declared.refusal.AltRefusal.TheVariants.{Empty, BadToken, BadPercent, NoEquals, BadQuoted, BadAuthority, BadParameter, Trailing, TooLong}
+use Rattle.altsvc_grammar.specs.RefusalNumbers.{refusal_number}
 use Rattle.altsvc_grammar.specs.ValueReading.{read_value}
 use Rattle.altsvc_grammar.specs.Shown.{show_lines}
 use Rattle.hex.specs.Hex.{decode_of, encode_lower}
@@ -40,20 +40,9 @@ given_text (Shown text) = text
 given_text (Refused text) = text
 
 -- `show altsvc`: a line for each alternative, or `clear`
-abbrev pub altsvc_refusal_number : AltRefusal → ℕ
-altsvc_refusal_number Empty = 1
-altsvc_refusal_number BadToken = 2
-altsvc_refusal_number BadPercent = 3
-altsvc_refusal_number NoEquals = 4
-altsvc_refusal_number BadQuoted = 5
-altsvc_refusal_number BadAuthority = 6
-altsvc_refusal_number BadParameter = 7
-altsvc_refusal_number Trailing = 8
-altsvc_refusal_number TooLong = 9
-
 abbrev pub altsvc_reading_given : Result AltSvc (At AltRefusal) → Given
 altsvc_reading_given (Ok value) = Shown (show_lines value)
-altsvc_reading_given (Err at) = Refused (refused_at (altsvc_refusal_number at.reason) at.place)
+altsvc_reading_given (Err at) = Refused (refused_at (refusal_number at.reason) at.place)
 
 abbrev pub altsvc_given : List ℕ → Given
 altsvc_given input = altsvc_reading_given (read_value (without_newline input))
