@@ -1,6 +1,6 @@
 -- What a turn makes of a run, by the status.
-use Rattle.std.proofs.Common.{◌≡◌, ℕ, ◌+◌, ◌≤◌, ◌<◌, Bool, true, false, ◌||◌, ◌&&◌, nat_eq, nat_lt, List, [], ◌++◌, length, take, Option, Ok, Err, refl, ap, sym, ◌∙◌, subst, arith, append-nil, inl, inr}
-use Rattle.alt_base.specs.Devices.{Grew, Took, IsAtEnd, with_front, answers_end, Grew-more, Took-more, Took-nil}
+use Rattle.std.proofs.Common.{◌≡◌, ℕ, ◌+◌, ◌≤◌, true, false, List, [], ◌++◌, length, take, Ok, Err, refl, ap, sym, ◌∙◌, subst, arith, append-nil, inl, inr}
+use Rattle.alt_base.specs.Devices.{Grew, Took, IsAtEnd, Grew-more, Took-more, Took-nil}
 use Rattle.alt_base.specs.Faults.{Rose}
 use Rattle.route_events.specs.Journal.{Journal}
 use Rattle.altroute_program.specs.declared.state.Replay.{Replay}

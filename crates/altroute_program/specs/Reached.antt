@@ -1,7 +1,6 @@
 -- How far a run has come, and what a line, a byte, a piece or the end makes of it. Private contracts cite this.
 use Rattle.std.specs.Prelude.{◌≡◌, ◌⊎◌, ℕ, ◌≤◌, true, false, List, ◌++◌, length, take, Option, Some, None, Result, Ok, Err}
 use Rattle.alt_base.specs.Devices.{Grew}
-use Rattle.alt_base.specs.Faults.{Rose}
 use Rattle.route_events.specs.Journal.{Journal}
 use Rattle.router_core.specs.StandsFor.{StandsFor}
 use Rattle.router_core.specs.declared.router.Router.{Router}

@@ -58,12 +58,12 @@ end_runs status state first old new octets runs ends cause took end at_end same 
     by_status Usage ends cause = ends
     by_status ReadFault ends cause = absurd ends
     by_status WriteFault ends cause = record {
-      part = record { octets = octets; ended = true; most = length (frames_text octets) + ends.1; at_end = ended; moves = part state first old new octets octets ends.0 true ends.1 runs all_took ends.2 ends.3 };
+      part = record { bytes = octets; ended = true; most = length (frames_text octets) + ends.1; at_end = ended; moves = part state first old new octets octets ends.0 true ends.1 runs all_took ends.2 ends.3 };
       rose = subst (λ n. Rose n new.write_faults) runs.no_fault.sink cause;
       source = same ∙ runs.no_fault.source;
     }
     by_status NoMemory ends cause = record {
-      part = record { octets = octets; ended = true; most = length (frames_text octets) + 0; at_end = ended; moves = part state first old new octets octets ends.0 true 0 runs all_took ends.1 (nothing_grew old.written new.written ends.0 ends.2) };
+      part = record { bytes = octets; ended = true; most = length (frames_text octets) + 0; at_end = ended; moves = part state first old new octets octets ends.0 true 0 runs all_took ends.1 (nothing_grew old.written new.written ends.0 ends.2) };
       no_fault = kept_both state first old new octets runs same cause;
     }
     by_status TooLong ends cause = absurd ends
@@ -94,12 +94,12 @@ piece_stops status state next first old new before piece runs ends cause took sa
     by_status Usage ends cause = ends
     by_status ReadFault ends cause = absurd ends
     by_status WriteFault ends cause = record {
-      part = record { octets = all; ended = false; most = length (frames_text before) + ends.1; at_end = tt; moves = part state first old new before all ends.0 false ends.1 runs all_took ends.2 ends.3 };
+      part = record { bytes = all; ended = false; most = length (frames_text before) + ends.1; at_end = tt; moves = part state first old new before all ends.0 false ends.1 runs all_took ends.2 ends.3 };
       rose = subst (λ n. Rose n new.write_faults) runs.no_fault.sink cause;
       source = same ∙ runs.no_fault.source;
     }
     by_status NoMemory ends cause = record {
-      part = record { octets = all; ended = false; most = length (frames_text before) + 0; at_end = tt; moves = part state first old new before all ends.0 false 0 runs all_took ends.1 (nothing_grew old.written new.written ends.0 ends.2) };
+      part = record { bytes = all; ended = false; most = length (frames_text before) + 0; at_end = tt; moves = part state first old new before all ends.0 false 0 runs all_took ends.1 (nothing_grew old.written new.written ends.0 ends.2) };
       no_fault = kept_both state first old new before runs same cause;
     }
     by_status TooLong ends cause = (all, record { stop = ends.0; at_end = tt; moves = whole state first old new before all ends.1 (frame_outcome all false).text runs all_took ends.2 ends.3; no_fault = kept_both state first old new before runs same cause })

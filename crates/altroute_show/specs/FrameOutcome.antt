@@ -1,6 +1,7 @@
 -- What `show frames` writes for the octets that it took, and where it stops.
 use Rattle.std.specs.Prelude.{ℕ, ◌-◌, Bool, true, false, ◌&&◌, nat_lt, List, [], ◌∷◌, ◌++◌, length, take, Option, Some, None, if◌then◌else◌}
 use Rattle.h2_framing.specs.Streams.{frames_of, rest_of, too_large_of}
+use Rattle.altroute_show.specs.Ends.{Outcome}
 use Rattle.altroute_show.specs.Given.{refused_at}
 use Rattle.altroute_show.specs.FrameLines.{frame_lines}
 
@@ -11,10 +12,8 @@ pub data FrameStop : Type 0 where
   AtUnfinished : FrameStop
   AtLongInput : FrameStop
 
--- the text, and the stop
-pub record FrameOutcome : Type 0 where
-  pub text : List ℕ
-  pub stop : Option FrameStop
+abbrev pub FrameOutcome : Type 0
+FrameOutcome = Outcome FrameStop
 
 -- the lines of the whole frames of some octets
 abbrev pub frames_text : List ℕ → List ℕ

@@ -1,5 +1,6 @@
 pub mod Statuses
 pub mod Seen
+pub mod Ends
 pub mod Causes
 pub mod Given
 pub mod RecordJson
