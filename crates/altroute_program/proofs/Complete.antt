@@ -3,10 +3,11 @@ use Rattle.std.proofs.Common.{◌≡◌, ℕ, Bool, true, false, List, [], ◌++
 use Rattle.std.specs.Bool.{OnTrue}
 use Rattle.alt_base.specs.Devices.{with_front, IsAtEnd}
 use Rattle.alt_base.specs.Faults.{Rose}
-use Rattle.altroute_program.specs.declared.status.Status.{Status}
-use Rattle.altroute_program.specs.declared.status.Status.TheVariants.{Done, Refused, Usage, ReadFault, WriteFault, NoMemory, TooLong}
+use Rattle.altroute_show.specs.declared.status.Status.{Status}
+use Rattle.altroute_show.specs.declared.status.Status.TheVariants.{Done, Refused, Usage, ReadFault, WriteFault, NoMemory, TooLong}
 use Rattle.altroute_program.specs.Outcome.{Stop, outcome, stop_of, text_of}
-use Rattle.altroute_program.specs.Ends.{Seen, AnsweredEnd, ReplayEnds}
+use Rattle.altroute_show.specs.Seen.{Seen, AnsweredEnd}
+use Rattle.altroute_program.specs.Ends.{ReplayEnds}
 use Rattle.altroute_program.proofs.Stays.{stays, stop_from}
 
 some_none : {X : Type 0} (x : X) (o : Option X) → o ≡ Some x → o ≡ None → ⊥

@@ -5,11 +5,3 @@ mod Lines
 mod Pieces
 mod OneTurn
 mod Complete
-mod WholeInputs
-mod RecordTexts
-mod FrameSplits
-mod FrameOutcomes
-mod FrameAnswers
-mod FrameRuns
-mod FrameComplete
-mod FrameStays

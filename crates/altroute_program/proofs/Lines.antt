@@ -2,24 +2,21 @@
 use Rattle.std.proofs.Common.{◌≡◌, ℕ, ◌+◌, ◌≤◌, ◌<◌, zero, suc, true, false, nat_eq, List, [], ◌∷◌, ◌++◌, length, take, Option, Result, Ok, Err, refl, ap, sym, ◌∙◌, subst, arith, append_assoc, append-nil, inl, inr}
 use Rattle.std.specs.Prelude.{min}
 use Rattle.std.proofs.lemmas.List.{length_push}
-use Rattle.alt_base.specs.Devices.{Grew, Grew-more, with_end-nil}
+use Rattle.alt_base.specs.Devices.{Grew, Grew-more}
 use Rattle.route_events.specs.Journal.{Journal}
 use Rattle.router_core.specs.StandsFor.{StandsFor}
 use Rattle.router_core.specs.declared.router.Router.{Router}
 use Rattle.event_lines.specs.LineReading.{line_reading}
 use Rattle.altroute_program.specs.declared.state.Replay.{Replay}
-use Rattle.altroute_program.specs.declared.status.Status.{Status}
-use Rattle.altroute_program.specs.declared.status.Status.TheVariants.{Done, Refused, Usage, ReadFault, WriteFault, NoMemory, TooLong}
+use Rattle.altroute_show.specs.declared.status.Status.{Status}
+use Rattle.altroute_show.specs.declared.status.Status.TheVariants.{Done, Refused, Usage, ReadFault, WriteFault, NoMemory, TooLong}
 use Rattle.altroute_program.specs.Lines.{Cut}
 use Rattle.altroute_program.specs.Outcome.{Going, Stopped, AtRefused, AtLongLine, AtLongInput, after_reading, act_all, start, outcome, text_of, stop_of}
 use Rattle.altroute_program.specs.Reached.{Reached, LineEnds, BytesEnd, FinishEnds, IsTooLong, status_after}
+use Rattle.altroute_show.proofs.Told.{grew_nothing, take_longer}
 use Rattle.altroute_program.proofs.Cutting.{cut-push}
 use Rattle.altroute_program.proofs.Outcomes.{newline_progress, newline_outcome, other_cut, going_is, ended_is, ended_more, reading_grows, full_outcome, long_outcome}
 use Rattle.altroute_program.proofs.Stays.{grows, stays}
-
--- nothing is written
-pub grew_nothing : (told : Option (List ℕ)) → Grew told told []
-grew_nothing told = sym (with_end-nil told)
 
 -- a line
 
@@ -77,16 +74,6 @@ out_of_memory old new bytes text b j told r room =
 -- a piece
 
 -- a front of a front, behind what was written before
-pub take_longer : (a b : List ℕ) (n : ℕ) → a ++ take n b ≡ take (length a + n) (a ++ b)
-take_longer [] b n = ap (λ m. take m b) (zero_plus n)
-  where
-    zero_plus : (m : ℕ) → m ≡ 0 + m
-    zero_plus m = omega arith
-take_longer (x ∷ a) b n = ap (λ xs. x ∷ xs) (take_longer a b n) ∙ ap (λ m. take m (x ∷ (a ++ b))) (suc_plus (length a) n)
-  where
-    suc_plus : (m k : ℕ) → suc (m + k) ≡ suc m + k
-    suc_plus m k = omega arith
-
 take_within : (a b : List ℕ) (n : ℕ) → take n a ≡ take (min n (length a)) (a ++ b)
 take_within [] b zero = refl
 take_within [] b (suc n) = ap (λ m. take m b) (none n)

@@ -1,38 +1,22 @@
 -- What a turn makes of a run, by the status.
-use Rattle.std.proofs.Common.{◌≡◌, ℕ, ◌+◌, ◌≤◌, ◌<◌, Bool, true, false, ◌||◌, ◌&&◌, nat_eq, nat_lt, List, [], ◌++◌, length, take, Option, Ok, Err, refl, ap, sym, ◌∙◌, subst, arith, append-nil, inl, inr}
-use Rattle.alt_base.specs.Devices.{Grew, Took, IsAtEnd, with_front, answers_end, Grew-more, Took-more, Took-nil}
+use Rattle.std.proofs.Common.{◌≡◌, ℕ, ◌+◌, ◌≤◌, true, false, List, [], ◌++◌, length, take, Ok, Err, refl, ap, sym, ◌∙◌, subst, arith, append-nil, inl, inr}
+use Rattle.alt_base.specs.Devices.{Grew, Took, IsAtEnd, Grew-more, Took-more, Took-nil}
 use Rattle.alt_base.specs.Faults.{Rose}
 use Rattle.route_events.specs.Journal.{Journal}
 use Rattle.altroute_program.specs.declared.state.Replay.{Replay}
-use Rattle.altroute_program.specs.declared.status.Status.{Status}
-use Rattle.altroute_program.specs.declared.status.Status.TheVariants.{Done, Refused, Usage, ReadFault, WriteFault, NoMemory, TooLong}
+use Rattle.altroute_show.specs.declared.status.Status.{Status}
+use Rattle.altroute_show.specs.declared.status.Status.TheVariants.{Done, Refused, Usage, ReadFault, WriteFault, NoMemory, TooLong}
 use Rattle.altroute_program.specs.Outcome.{outcome, text_of, stop_of}
-use Rattle.altroute_program.specs.Reached.{Reached, BytesEnd, FinishEnds, SinkCause, Runs, HasRun}
-use Rattle.altroute_program.specs.Ends.{Seen, AnsweredEnd, NoFault, ReplayEnds}
+use Rattle.altroute_show.specs.Causes.{SinkCause}
+use Rattle.altroute_show.specs.Seen.{Seen, AnsweredEnd, NoFault}
+use Rattle.altroute_program.specs.Reached.{Reached, BytesEnd, FinishEnds, Runs, HasRun}
+use Rattle.altroute_program.specs.Ends.{ReplayEnds}
+use Rattle.altroute_show.proofs.Told.{grew_nothing, nothing_taken, front_of}
 use Rattle.altroute_program.proofs.Outcomes.{going_is}
-use Rattle.altroute_program.proofs.Lines.{grew_nothing, take_longer}
 
 -- nothing was taken yet
 pub begins : (r : Replay) (first : Seen) → Reached r [] [] [] → HasRun r first first
 begins r first reached = ([], [], [], record { reached = reached; moves = record { took = Took-nil first.left; grew = grew_nothing first.written }; no_fault = record { source = refl; sink = refl } })
-
-nothing_taken : (a : Option (List ℕ)) → with_front [] a ≡ a
-nothing_taken a = sym (Took-nil a)
-
--- a read that answered 0 for a buffer that isn't empty
-pub answered : (before now : Bool) (n room : ℕ) → n ≡ 0 → 0 < room → now ≡ (before || answers_end {E = ℕ} (Ok n) room) → now ≡ true
-answered before now n room none some is = is ∙ ap (λ b. before || b) all ∙ or_true before
-  where
-    all : (nat_eq n 0 && nat_lt 0 room) ≡ true
-    all = grind arith
-
-    or_true : (b : Bool) → (b || true) ≡ true
-    or_true true = refl
-    or_true false = refl
-
--- a front of what follows is a front of the whole
-front_of : (text more all : List ℕ) (n : ℕ) → all ≡ text ++ more → text ++ take n more ≡ take (length text + n) all
-front_of text more all n whole = take_longer text more n ∙ ap (take (length text + n)) (sym whole)
 
 -- what the end of the input makes of a run
 pub finish_ends : (status : Status) (replay : Replay) (first old new : Seen) (bytes text : List ℕ) (j : Journal) → Runs replay first old bytes text j → FinishEnds status old.written new.written bytes text → SinkCause status old.write_faults new.write_faults → Took old.left new.left [] → new.source_ended ≡ true → IsAtEnd old.left → new.read_faults ≡ old.read_faults → ReplayEnds status first new

@@ -4,9 +4,10 @@ use Rattle.std.proofs.lemmas.List.{take-append-drop}
 use Rattle.alt_base.specs.Devices.{Grew, Grew-more}
 use Rattle.route_events.specs.Journal.{Journal}
 use Rattle.altroute_program.specs.declared.state.Replay.{Replay}
-use Rattle.altroute_program.specs.declared.status.Status.{Status}
+use Rattle.altroute_show.specs.declared.status.Status.{Status}
 use Rattle.altroute_program.specs.Reached.{Reached, BytesEnd}
-use Rattle.altroute_program.proofs.Lines.{grew_nothing, piece_error}
+use Rattle.altroute_show.proofs.Told.{grew_nothing}
+use Rattle.altroute_program.proofs.Lines.{piece_error}
 
 -- how far some bytes behind those of a start have come
 abbrev pub Comes : Replay → Replay → List ℕ → Option (List ℕ) → Option (List ℕ) → Type 0

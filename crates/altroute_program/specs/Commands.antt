@@ -3,7 +3,7 @@ use Rattle.std.specs.Prelude.{ℕ, Bool, List, [], ◌∷◌, Option, Some, None
 use Rattle.std.specs.Cmp.Lexicographic.{pointwise}
 use Rattle.altroute_program.specs.declared.command.Command.{Command}
 use Rattle.altroute_program.specs.declared.command.Command.TheVariants.{Replay, ShowFrames, Whole}
-use Rattle.altroute_program.specs.declared.whole_command.WholeCommand.TheVariants.{ShowAltSvc, ShowHttps, ShowHttpsJson, WriteHttps}
+use Rattle.altroute_show.specs.declared.whole_command.WholeCommand.TheVariants.{ShowAltSvc, ShowHttps, ShowHttpsJson, WriteHttps}
 
 -- a word is this one
 abbrev pub is_word : List ℕ → List ℕ → Bool

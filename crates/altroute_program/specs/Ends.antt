@@ -1,81 +1,21 @@
--- What each status of a run says.
-use Rattle.std.specs.Prelude.{◌≡◌, ◌⊎◌, ℕ, Bool, true, false, List, take, Option, Some, None}
-use Rattle.std.specs.Bool.{OnTrue}
-use Rattle.alt_base.specs.Devices.{Took, Grew, IsAtEnd}
-use Rattle.alt_base.specs.Faults.{Rose}
-use Rattle.altroute_program.specs.declared.status.Status.{Status}
-use Rattle.altroute_program.specs.declared.status.Status.TheVariants.{Done, Refused, Usage, ReadFault, WriteFault, NoMemory, TooLong}
+-- What each status of `replay` says.
+use Rattle.std.specs.Prelude.{◌⊎◌, ℕ, Bool, false, List}
+use Rattle.altroute_show.specs.declared.status.Status.{Status}
+use Rattle.altroute_show.specs.declared.status.Status.TheVariants.{Done, Refused, Usage, ReadFault, WriteFault, NoMemory, TooLong}
+use Rattle.altroute_show.specs.Seen.{Seen}
+use Rattle.altroute_show.specs.Ends.{Outcome, IsDone, IsStopped, IsReadFault, IsWriteFault, IsNoMemory}
 use Rattle.altroute_program.specs.Outcome.{Stop, AtRefused, AtLongLine, AtLongInput, outcome, text_of, stop_of}
 
--- what a source and a sink tell, whether the source has answered its end, and their counts of faults
-pub record Seen : Type 0 where
-  pub left : Option (List ℕ)
-  pub source_ended : Bool
-  pub read_faults : ℕ
-  pub written : Option (List ℕ)
-  pub write_faults : ℕ
-
--- the source has answered its end, and no byte is left where it tells them
-pub record AnsweredEnd (new : Seen) : Type 0 where
-  pub answered : new.source_ended ≡ true
-  pub at_end : IsAtEnd new.left
-
--- neither device failed
-pub record NoFault (old new : Seen) : Type 0 where
-  pub source : new.read_faults ≡ old.read_faults
-  pub sink : new.write_faults ≡ old.write_faults
-
--- these bytes were taken, and this text was written
-pub record Moves (old new : Seen) (bytes text : List ℕ) : Type 0 where
-  pub took : Took old.left new.left bytes
-  pub grew : Grew old.written new.written text
-
--- all was read and taken, and all was written
-pub record IsDone (old new : Seen) (bytes : List ℕ) : Type 0 where
-  pub ended : AnsweredEnd new
-  pub no_stop : stop_of (outcome bytes true) ≡ None
-  pub moves : Moves old new bytes (text_of (outcome bytes true))
-  pub no_fault : NoFault old new
-
--- the bytes stop the run, and the text before the stop, with the line of a refusal, was written
-pub record IsStopped (old new : Seen) (bytes : List ℕ) (ended : Bool) (why : Stop) : Type 0 where
-  pub stop : stop_of (outcome bytes ended) ≡ Some why
-  pub at_end : OnTrue ended (AnsweredEnd new)
-  pub moves : Moves old new bytes (text_of (outcome bytes ended))
-  pub no_fault : NoFault old new
-
--- a read failed; what the lines ended by a newline give was written
-pub record IsReadFault (old new : Seen) (bytes : List ℕ) : Type 0 where
-  pub no_stop : stop_of (outcome bytes false) ≡ None
-  pub moves : Moves old new bytes (text_of (outcome bytes false))
-  pub rose : Rose old.read_faults new.read_faults
-  pub sink : new.write_faults ≡ old.write_faults
-
--- a front of the text was written
-pub record IsPart (old new : Seen) : Type 0 where
-  pub bytes : List ℕ
-  pub ended : Bool
-  pub most : ℕ
-  pub at_end : OnTrue ended (AnsweredEnd new)
-  pub moves : Moves old new bytes (take most (text_of (outcome bytes ended)))
-
--- a write failed
-pub record IsWriteFault (old new : Seen) : Type 0 where
-  pub part : IsPart old new
-  pub rose : Rose old.write_faults new.write_faults
-  pub source : new.read_faults ≡ old.read_faults
-
--- memory wasn't found
-pub record IsNoMemory (old new : Seen) : Type 0 where
-  pub part : IsPart old new
-  pub no_fault : NoFault old new
+-- what a replay owes for the bytes that it took, and whether the input ended behind them
+abbrev pub owed : List ℕ → Bool → Outcome Stop
+owed bytes ended = record { text = text_of (outcome bytes ended); stop = stop_of (outcome bytes ended) }
 
 -- the statuses of `replay`
 abbrev pub ReplayEnds : Status → Seen → Seen → Type 0
-ReplayEnds Done old new = (bytes : List ℕ) × IsDone old new bytes
-ReplayEnds Refused old new = (bytes : List ℕ) × (ended : Bool) × IsStopped old new bytes ended AtRefused
+ReplayEnds Done old new = (bytes : List ℕ) × IsDone owed old new bytes
+ReplayEnds Refused old new = (bytes : List ℕ) × (ended : Bool) × IsStopped owed old new bytes ended AtRefused
 ReplayEnds Usage old new = ⊥
-ReplayEnds ReadFault old new = (bytes : List ℕ) × IsReadFault old new bytes
-ReplayEnds WriteFault old new = IsWriteFault old new
-ReplayEnds NoMemory old new = IsNoMemory old new
-ReplayEnds TooLong old new = (bytes : List ℕ) × (IsStopped old new bytes false AtLongLine ⊎ IsStopped old new bytes false AtLongInput)
+ReplayEnds ReadFault old new = (bytes : List ℕ) × IsReadFault owed old new bytes
+ReplayEnds WriteFault old new = IsWriteFault owed old new
+ReplayEnds NoMemory old new = IsNoMemory owed old new
+ReplayEnds TooLong old new = (bytes : List ℕ) × (IsStopped owed old new bytes false AtLongLine ⊎ IsStopped owed old new bytes false AtLongInput)

@@ -1,15 +1,7 @@
-pub mod Statuses
 pub mod Commands
 pub mod Lines
 pub mod Texts
 pub mod Outcome
 pub mod Ends
 pub mod Reached
-pub mod Given
-pub mod WholeInput
 pub mod Runs
-pub mod RecordJson
-pub mod FrameLines
-pub mod FrameOutcome
-pub mod FrameEnds
-pub mod FrameSteps

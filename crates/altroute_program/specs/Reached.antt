@@ -1,18 +1,18 @@
 -- How far a run has come, and what a line, a byte, a piece or the end makes of it. Private contracts cite this.
 use Rattle.std.specs.Prelude.{◌≡◌, ◌⊎◌, ℕ, ◌≤◌, true, false, List, ◌++◌, length, take, Option, Some, None, Result, Ok, Err}
 use Rattle.alt_base.specs.Devices.{Grew}
-use Rattle.alt_base.specs.Faults.{Rose}
 use Rattle.route_events.specs.Journal.{Journal}
 use Rattle.router_core.specs.StandsFor.{StandsFor}
 use Rattle.router_core.specs.declared.router.Router.{Router}
 use Rattle.altroute_program.specs.declared.state.Replay.{Replay}
-use Rattle.altroute_program.specs.declared.status.Status.{Status}
-use Rattle.altroute_program.specs.declared.status.Status.TheVariants.{Done, Refused, Usage, ReadFault, WriteFault, NoMemory, TooLong}
+use Rattle.altroute_show.specs.declared.status.Status.{Status}
+use Rattle.altroute_show.specs.declared.status.Status.TheVariants.{Done, Refused, Usage, ReadFault, WriteFault, NoMemory, TooLong}
 use Rattle.altroute_program.specs.declared.answers.Answer.{Answer}
 use Rattle.altroute_program.specs.declared.answers.Answer.TheVariants as answer
 use Rattle.altroute_program.specs.Lines.{cut_lines}
 use Rattle.altroute_program.specs.Outcome.{Progress, Going, Stopped, AtRefused, AtLongLine, AtLongInput, act_all, start, outcome, text_of, stop_of}
-use Rattle.altroute_program.specs.Ends.{Seen, Moves, NoFault, ReplayEnds}
+use Rattle.altroute_show.specs.Seen.{Seen, Moves, NoFault}
+use Rattle.altroute_program.specs.Ends.{ReplayEnds}
 
 -- what an answer to a line says of the progress that the line makes
 abbrev pub AnswersSo : Answer → List ℕ → ℕ → Progress → Type 0
@@ -67,20 +67,6 @@ FinishEnds TooLong old new bytes text = ⊥
 abbrev pub status_after : Result Router Status → Status
 status_after (Ok router) = Done
 status_after (Err status) = status
-
--- the count of the sink's faults rose where a write failed, and stands as it was else
-abbrev pub SinkCause : Status → ℕ → ℕ → Type 0
-SinkCause WriteFault before now = Rose before now
-SinkCause Done before now = now ≡ before
-SinkCause Refused before now = now ≡ before
-SinkCause Usage before now = now ≡ before
-SinkCause ReadFault before now = now ≡ before
-SinkCause NoMemory before now = now ≡ before
-SinkCause TooLong before now = now ≡ before
-
-abbrev pub ResultCause : {T : Type 0} → Result T Status → ℕ → ℕ → Type 0
-ResultCause (Ok x) before now = now ≡ before
-ResultCause (Err status) before now = SinkCause status before now
 
 -- from a start, these bytes were taken and this text was written, without a fault
 pub record Runs (replay : Replay) (first now : Seen) (bytes text : List ℕ) (j : Journal) : Type 0 where

@@ -3,7 +3,8 @@ ghost use Rattle.route_events.specs.Journal.{Journal};
 ghost use Rattle.router_core.specs.StandsFor.{StandsFor};
 ghost use Rattle.event_lines.specs.LineReading.{line_reading};
 ghost use Rattle.altroute_program.specs.Outcome.{after_reading};
-ghost use Rattle.altroute_program.specs.Reached.{LineEnds, BytesEnd, FinishEnds, Reached, ResultCause, SinkCause, status_after};
+ghost use Rattle.altroute_show.specs.Causes.{ResultCause, SinkCause};
+ghost use Rattle.altroute_program.specs.Reached.{LineEnds, BytesEnd, FinishEnds, Reached, status_after};
 
 use crate::Status;
 use crate::answers::{Answer, answer_line};

@@ -1,13 +1,12 @@
 ghost use Rattle.altroute_program.specs.Commands.{command_of};
-ghost use Rattle.altroute_program.specs.Ends.{Seen};
+ghost use Rattle.altroute_show.specs.Seen.{Seen};
 ghost use Rattle.altroute_program.specs.Runs.{RunEnds, IsComplete};
 
 use crate::Status;
 use crate::command::{Command, command_of};
-use crate::run_whole::run_whole;
-use crate::show_frames::show_frames;
 use crate::turns::replay;
 use alt_base::{Sink, Source, Words};
+use altroute_show::{run_whole, show_frames};
 use std::alloc::Global;
 
 /// Does all that the program does, for the words of its command line, without the program's name.

@@ -1,26 +1,12 @@
 ghost use Rattle.std.specs.Prelude.{◌≡◌, ◌++◌, IfOk, OnOk, codes};
-ghost use Rattle.std.specs.Fmt.{decimal};
 ghost use Rattle.event_lines.specs.ActionTexts.{action_text};
 ghost use Rattle.altroute_program.specs.Texts.{actions_text, refused_line, step_refusal_text, line_refusal_text, line_refusal_number};
 
 use alt_base::NoMemory;
+use altroute_show::{put, put_number};
 use event_lines::{LineRefusal, write_action};
 use route_events::{Action, StepRefusal};
 use std::alloc::Global;
-
-pub(crate) fn put(text: &mut Vec<u8>, piece: &[u8]) -> Result<(), NoMemory>
-    ensures { OnOk result (text.new.items ≡ text.old.items ++ piece.now) }
-{
-    text.extend_from_slice(piece)?;
-    Ok(())
-}
-
-pub(crate) fn put_number(alloc: Global, text: &mut Vec<u8>, number: u32) -> Result<(), NoMemory>
-    ensures { OnOk result (text.new.items ≡ text.old.items ++ decimal number) }
-{
-    text.extend_from_slice(number.to_string(alloc)?.as_bytes())?;
-    Ok(())
-}
 
 // An action's line.
 fn put_action(alloc: Global, text: &mut Vec<u8>, action: &Action) -> Result<(), NoMemory>

@@ -1,5 +1,6 @@
 ghost use Rattle.std.specs.Prelude.{◌≡◌, ◌≤◌, ◌<◌, length, IfNone};
-ghost use Rattle.altroute_program.specs.Ends.{Seen, ReplayEnds};
+ghost use Rattle.altroute_show.specs.Seen.{Seen};
+ghost use Rattle.altroute_program.specs.Ends.{ReplayEnds};
 ghost use Rattle.altroute_program.specs.Reached.{HasRun, TurnEnds};
 
 use crate::Status;

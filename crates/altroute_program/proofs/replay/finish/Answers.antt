@@ -2,7 +2,7 @@ use Rattle.std.proofs.Common.{◌<◌, ◌+◌, length, arith, sym, ◌∙◌, s
 use Rattle.std.proofs.lemmas.List.{nil_from_length}
 use Rattle.router_core.specs.declared.router.Router.{Router}
 use Rattle.router_core.specs.StandsFor.{StandsFor}
-use Rattle.altroute_program.specs.declared.status.Status.{Status}
+use Rattle.altroute_show.specs.declared.status.Status.{Status}
 use Rattle.altroute_program.specs.Reached.{FinishEnds}
 use Rattle.altroute_program.proofs.Lines.{finish_empty, finish_any, seen_line}
 use Rattle.altroute_program.proofs.replay.finish.Goals as goal

@@ -1,6 +1,7 @@
 use Rattle.std.proofs.Common.{◌≡◌, [], take, refl, subst, arith}
 use Rattle.alt_base.specs.Devices.{Took}
-use Rattle.altroute_program.proofs.OneTurn.{answered, finish_ends, piece_runs, piece_ends, read_fault}
+use Rattle.altroute_show.proofs.Told.{answered}
+use Rattle.altroute_program.proofs.OneTurn.{finish_ends, piece_runs, piece_ends, read_fault}
 use Rattle.altroute_program.proofs.turns.take_turn.Goals as goal
 
 pub returns-then-count-eq0-clause-runs : goal.returns-then-count-eq0-clause-runs

@@ -1,6 +1,0 @@
-use Rattle.std.proofs.Common.{◌≡◌, ◌+◌, drop}
-use Rattle.altroute_program.specs.FrameSteps.{frames_size}
-use Rattle.altroute_program.proofs.frame_steps.frames_size.Given as goal
-
-abbrev pub invariant-loop-frame : goal.invariant-loop-frame
-invariant-loop-frame l = l.size + frames_size (drop l.frame-index l.frames) ≡ frames_size l.frames

@@ -1,0 +1,11 @@
+pub mod Statuses
+pub mod Seen
+pub mod Ends
+pub mod Causes
+pub mod Given
+pub mod RecordJson
+pub mod WholeInput
+pub mod FrameLines
+pub mod FrameOutcome
+pub mod FrameEnds
+pub mod FrameSteps
