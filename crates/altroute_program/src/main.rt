@@ -49,6 +49,8 @@ fn main(rt: HostRuntime) -> ExitCode {
 }
 
 #[cfg(test)]
+mod alternative_tests;
+#[cfg(test)]
 mod frame_tests;
 #[cfg(test)]
 mod record_tests;

@@ -26,7 +26,7 @@ pub(crate) struct Gave {
     pub written: Vec<u8>,
 }
 
-fn replayed(
+pub(crate) fn replayed(
     alloc: Global,
     input: Bytes,
     failing_reads: &[u32],
