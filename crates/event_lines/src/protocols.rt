@@ -1,22 +1,13 @@
 ghost use Rattle.std.specs.Prelude.{◌≡◌};
-ghost use Rattle.route_events.specs.Authority.{protocols};
-ghost use Rattle.event_lines.specs.ActionTexts.{route_text, protos_text};
+ghost use Rattle.route_events.specs.Authority.{named, protocols};
+ghost use Rattle.event_lines.specs.ActionTexts.{protos_text};
 
 use origin_values::{Protos, Scheme};
 use route_events::Route;
 
-// The word of a route.
-pub(crate) fn route_text(route: Route) -> &'static [u8]
-    ensures { result.now ≡ route_text route }
-{
-    match route {
-        Route::Direct => b"direct",
-    }
-}
-
 // The protocols that an attempt may end with.
-pub(crate) fn protocols(scheme: Scheme, route: Route) -> Protos
-    ensures { result ≡ protocols scheme route }
+pub(crate) fn protocols(scheme: Scheme, route: &Route) -> Protos
+    ensures { result ≡ protocols scheme route.now }
 {
     match (scheme, route) {
         (Scheme::Http, Route::Direct) => Protos {
@@ -29,6 +20,19 @@ pub(crate) fn protocols(scheme: Scheme, route: Route) -> Protos
             h3: false,
             http11: true,
         },
+        (Scheme::Http, Route::Alt(key)) => named(key.proto.as_slice()),
+        (Scheme::Https, Route::Alt(key)) => named(key.proto.as_slice()),
+    }
+}
+
+// The protocol of an ALPN identifier.
+fn named(id: &[u8]) -> Protos
+    ensures { result ≡ named id.now }
+{
+    Protos {
+        h2: id == b"h2".as_slice(),
+        h3: id == b"h3".as_slice(),
+        http11: id == b"http/1.1".as_slice(),
     }
 }
 
