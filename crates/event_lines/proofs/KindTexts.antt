@@ -1,5 +1,5 @@
 -- Each kind's fields against the grammar. A further kind is a case of `kind_complete` and one of `kind_sound`.
-use Rattle.std.proofs.Common.{◌≡◌, ℕ, ◌+◌, Bool, true, false, cond, nat_eq, List, [], ◌∷◌, ◌++◌, length, codes, Option, Some, None, Ok, refl, ap, sym, ◌∙◌, subst}
+use Rattle.std.proofs.Common.{◌≡◌, ℕ, ◌+◌, Bool, true, false, cond, nat_eq, List, [], ◌∷◌, ◌++◌, length, codes, Option, Some, None, Ok, unwrap_or, ◌≤◌, append_assoc, append-nil, refl, ap, sym, ◌∙◌, subst}
 use Rattle.std.specs.Cmp.Lexicographic.{pointwise, same_text}
 use Rattle.origin_values.specs.HostReading.{read_addr}
 use Rattle.origin_values.specs.declared.address.Addr.{Addr}
@@ -7,18 +7,23 @@ use Rattle.origin_values.specs.declared.origin.Origin.{Origin}
 use Rattle.origin_values.specs.declared.proto.Proto.{Proto}
 use Rattle.origin_values.proofs.Addresses.{read_addr_sound}
 use Rattle.coalescing.specs.declared.cert_name.CertName.{CertName}
-use Rattle.route_events.specs.declared.fact.Fact.TheVariants.{Request, Opened, Failed, Closed, Tick}
+use Rattle.route_events.specs.declared.fact.Fact.TheVariants.{Request, Opened, Failed, Closed, Response, Network, Tick}
 use Rattle.event_lines.specs.Fields.{most_short, most_long, number_of, port_of, proto_of, origin_of, names_of}
 use Rattle.event_lines.specs.Parts.{Part, Reading, ◌>>=◌, next_word, value_or, field, refused}
-use Rattle.event_lines.specs.LineReading.{request_fields, opened_fields, failed_fields, closed_fields, kind_reading}
-use Rattle.event_lines.specs.LineGrammar.{NoSpace, AreApart, spaced, SpellsRequest, SpellsOpened, SpellsNumbered, SpellsKind}
-use Rattle.event_lines.specs.LineRefusals.{EndsWord, IsNext}
+use Rattle.event_lines.specs.LineReading.{request_fields, opened_fields, failed_fields, closed_fields, response_fields, kind_reading}
+use Rattle.event_lines.specs.ResponseGrammar.{Field, SpellFields, tabbed, most_fields, age_of, altsvc_of}
+use Rattle.event_lines.specs.ResponseReading.{status_reading, reply_reading}
+use Rattle.event_lines.specs.declared.response.Reply.{Reply}
+use Rattle.event_lines.specs.LineGrammar.{NoSpace, AreApart, spaced, SpellsStatus, SpellsRequest, SpellsOpened, SpellsNumbered, SpellsResponse, SpellsKind}
+use Rattle.event_lines.specs.LineRefusals.{EndsWord, IsNext, IsStatusWord}
 use Rattle.event_lines.specs.declared.event.Event.{Event}
 use Rattle.event_lines.specs.declared.event.Event.TheVariants.{Client}
 use Rattle.event_lines.specs.declared.refusal.LineRefusal.{LineRefusal}
 use Rattle.event_lines.specs.declared.refusal.LineRefusal.TheVariants.{BadField, UnknownKind}
 use Rattle.event_lines.proofs.NumberTexts.{number_sound, port_sound}
 use Rattle.event_lines.proofs.FieldTexts.{proto_sound, origin_field_sound, names_field_sound}
+use Rattle.event_lines.proofs.Refusals.{got_parts}
+use Rattle.event_lines.proofs.ResponseTexts.{status_apart, tabbed_ends_word, reply_complete, status_reads, status_found, reply_found}
 use Rattle.event_lines.proofs.Spaces.{next_reads, next_spaced, Next, Nothing, More, next_of}
 
 abbrev part : List ℕ → ℕ → Part
@@ -28,11 +33,15 @@ abbrev got : {A : Type 0} → A → Part → Reading A
 got value left = Ok (value, left)
 
 -- a field whose word is read
+pub field_next : {A B : Type 0} (read : List ℕ → Option A) (next : A × Part → Reading B) (text word behind : List ℕ) (place : ℕ) (value : A) → IsNext text word behind → read word ≡ Some value
+    → (field read (part text place) >>= next) ≡ next (value, part behind (place + 1 + length word))
+field_next {A} {B} read next text word behind place value is_next is =
+    ap (λ (r : Reading Part). (r >>= λ (w : Part × Part). value_or BadField w.0.place (read w.0.text) >>= λ v. got v w.1) >>= next) (next_reads BadField text word behind place is_next)
+    ∙ ap (λ (o : Option A). (value_or BadField (place + 1) o >>= λ v. got v (part behind (place + 1 + length word))) >>= next) is
+
 pub field_reads : {A B : Type 0} (read : List ℕ → Option A) (next : A × Part → Reading B) (word : List ℕ) (words : List (List ℕ)) (place : ℕ) (value : A) → NoSpace word → read word ≡ Some value
     → (field read (part (spaced (word ∷ words)) place) >>= next) ≡ next (value, part (spaced words) (place + 1 + length word))
-field_reads {A} {B} read next word words place value apart is =
-    ap (λ (r : Reading Part). (r >>= λ (w : Part × Part). value_or BadField w.0.place (read w.0.text) >>= λ v. got v w.1) >>= next) (next_reads BadField (spaced (word ∷ words)) word (spaced words) place (next_spaced word words apart))
-    ∙ ap (λ (o : Option A). (value_or BadField (place + 1) o >>= λ v. got v (part (spaced words) (place + 1 + length word))) >>= next) is
+field_reads {A} {B} read next word words place value apart is = field_next read next (spaced (word ∷ words)) word (spaced words) place value (next_spaced word words apart) is
 
 -- what is read of a field, where a value comes of it and what follows
 pub record Found {A B : Type 0} (read : List ℕ → Option A) (next : A × Part → Reading B) (text : List ℕ) (place : ℕ) (end : B × Part) : Type 0 where
@@ -66,16 +75,6 @@ joined_last text word behind s none = s.spelled ∙ ap (λ t. 32 ∷ (word ++ t)
 
 pub joined : (text word behind : List ℕ) (words : List (List ℕ)) → IsNext text word behind → behind ≡ spaced words → text ≡ spaced (word ∷ words)
 joined text word behind words s more = s.spelled ∙ ap (λ t. 32 ∷ (word ++ t)) more
-
-got_parts : (a b : Event) (p q : Part) → got a p ≡ got b q → (a ≡ b) × (p ≡ q)
-got_parts a b p q h =
-    let both : pair a p ≡ pair b q = ok_parts (pair a p) (pair b q) h in (ap (λ (x : Event × Part). x.0) both, ap (λ (x : Event × Part). x.1) both)
-  where
-    pair : Event → Part → Event × Part
-    pair e r = (e, r)
-
-    ok_parts : (x y : Event × Part) → ◌≡◌ {A = Reading Event} (Ok x) (Ok y) → x ≡ y
-    ok_parts x y e = cc
 
 abbrev text_of : Part → List ℕ
 text_of p = p.text
@@ -191,13 +190,71 @@ opened_sound text whole place event left is ends h none =
     } in
     subst (SpellsKind whole) last.0 spells
 
+-- a response
+abbrev said_of : ℕ → ℕ → Reply → Event
+said_of request status reply = Client (Response request status (unwrap_or reply.age 0) reply.altsvc)
+
+abbrev response_reply : ℕ → ℕ → Reply × Part → Reading Event
+response_reply request status r = got (said_of request status r.0) r.1
+
+abbrev response_status : ℕ → ℕ × Part → Reading Event
+response_status request s = reply_reading s.1 >>= response_reply request s.0
+
+abbrev response_request : ℕ × Part → Reading Event
+response_request q = status_reading q.1 >>= response_status q.0
+
+-- the text behind the name of the kind
+abbrev pub response_rest : List ℕ → List ℕ → List (List ℕ) → List ℕ
+response_rest q s texts = 32 ∷ (q ++ 32 ∷ (s ++ tabbed texts))
+
+pub response_joined : (q s : List ℕ) (texts : List (List ℕ)) → 32 ∷ (codes "response" ++ response_rest q s texts) ≡ spaced (codes "response" ∷ q ∷ s ∷ []) ++ tabbed texts
+response_joined q s texts = simp (append_assoc, append-nil)
+
+pub response_complete : (q s : List ℕ) (texts : List (List ℕ)) (fields : List Field) (request status place : ℕ) → NoSpace q → number_of most_short q ≡ Some request → SpellsStatus s status → SpellFields texts fields
+    → length texts ≤ most_fields → (end : ℕ) × (response_fields (part (response_rest q s texts) place) ≡ got (Client (Response request status (age_of fields) (altsvc_of fields))) (part [] end))
+response_complete q s texts fields request status place apart is_request is_status spelled few =
+    let next : IsNext (response_rest q s texts) q (32 ∷ (s ++ tabbed texts)) = record { spelled = refl; apart = apart; end = refl } in
+    let word : IsStatusWord (32 ∷ (s ++ tabbed texts)) s (tabbed texts) = record { spelled = refl; apart = status_apart s status is_status; end = tabbed_ends_word texts } in
+    let reply = reply_complete texts fields (place + 1 + length q + 1 + length s) spelled few in (
+      reply.0,
+      field_next (number_of most_short) response_request (response_rest q s texts) q (32 ∷ (s ++ tabbed texts)) place request next is_request
+          ∙ status_reads (response_status request) (32 ∷ (s ++ tabbed texts)) s (tabbed texts) status (place + 1 + length q) word is_status
+          ∙ ap (λ (r : Reading Reply). r >>= response_reply request status) reply.1,
+    )
+
+pub response_sound : (text whole : List ℕ) (place : ℕ) (event : Event) (left : Part) → whole ≡ 32 ∷ (codes "response" ++ text) → EndsWord text → response_fields (part text place) ≡ got event left → left.text ≡ []
+    → SpellsKind whole event
+response_sound text whole place event left is ends h none =
+    let f = field_found (number_of most_short) response_request text place (event, left) ends h in
+    let s = status_found (response_status f.value) f.behind (place + 1 + length f.word) (event, left) f.is_next.end f.then_is in
+    let r = reply_found (said_of f.value s.value) s.behind (place + 1 + length f.word + 1 + length s.word) event left s.then_is none in
+    let spells : SpellsResponse whole f.value s.value (age_of r.fields) (altsvc_of r.fields) = record {
+      request_text = f.word;
+      status_text = s.word;
+      field_texts = r.texts;
+      fields = r.fields;
+      spelled = is
+          ∙ ap (λ t. 32 ∷ (codes "response" ++ t)) (f.is_next.spelled ∙ ap (λ t. 32 ∷ (f.word ++ t)) (s.is_next.spelled ∙ ap (λ t. 32 ∷ (s.word ++ t)) r.is_tabbed))
+          ∙ response_joined f.word s.word r.texts;
+      apart = f.is_next.apart;
+      of_request = number_sound most_short f.word f.value f.is_read;
+      of_status = s.is_status;
+      of_fields = r.spelled;
+      within = r.few;
+      of_age = refl;
+      of_altsvc = refl;
+    } in
+    subst (SpellsKind whole) r.same spells
+
 abbrev is_name : List ℕ → List ℕ → Bool
 is_name name kind = pointwise nat_eq name kind
 
 -- what is read of a kind, up to the end of the line
 pub kind_sound : (name text whole : List ℕ) (p q : ℕ) (event : Event) (left : Part) → whole ≡ 32 ∷ (name ++ text) → EndsWord text → kind_reading (part name p) (part text q) ≡ got event left → left.text ≡ []
     → SpellsKind whole event
-kind_sound name text whole p q event left is ends h none = go (is_name name (codes "request")) (is_name name (codes "opened")) (is_name name (codes "failed")) (is_name name (codes "closed")) (is_name name (codes "tick")) refl refl refl refl refl h
+kind_sound name text whole p q event left is ends h none =
+    go (is_name name (codes "request")) (is_name name (codes "opened")) (is_name name (codes "failed")) (is_name name (codes "closed")) (is_name name (codes "response")) (is_name name (codes "network")) (is_name name (codes "tick"))
+    refl refl refl refl refl refl refl h
   where
     named : (kind : List ℕ) → is_name name kind ≡ true → whole ≡ 32 ∷ (kind ++ text)
     named kind t = is ∙ ap (λ n. 32 ∷ (n ++ text)) (same_text name kind (sym t))
@@ -205,18 +262,21 @@ kind_sound name text whole p q event left is ends h none = go (is_name name (cod
     clash : refused {A = Event × Part} p UnknownKind ≡ got event left → ⊥
     clash e = cc
 
-    ticked : whole ≡ 32 ∷ (codes "tick" ++ text) → got (Client Tick) (part text q) ≡ got event left → SpellsKind whole event
-    ticked w e =
-        let last = got_parts (Client Tick) event (part text q) left e in
-        let spells : SpellsKind whole (Client Tick) = behind_kind (codes "tick") text whole [] w (ap text_of last.1 ∙ none) in
-        subst (SpellsKind whole) last.0 spells
+    alone : (kind : List ℕ) (own : Event) → (whole ≡ spaced (kind ∷ []) → SpellsKind whole own) → whole ≡ 32 ∷ (kind ++ text) → got own (part text q) ≡ got event left → SpellsKind whole event
+    alone kind own spells w e =
+        let last = got_parts own event (part text q) left e in
+        subst (SpellsKind whole) last.0 (spells (behind_kind kind text whole [] w (ap text_of last.1 ∙ none)))
 
-    go : (a b c d e : Bool) → is_name name (codes "request") ≡ a → is_name name (codes "opened") ≡ b → is_name name (codes "failed") ≡ c → is_name name (codes "closed") ≡ d → is_name name (codes "tick") ≡ e
-        → cond a (request_fields (part text q)) (cond b (opened_fields (part text q)) (cond c (failed_fields (part text q)) (cond d (closed_fields (part text q)) (cond e (got (Client Tick) (part text q)) (refused p UnknownKind)))))
+    go : (a b c d r n t : Bool) → is_name name (codes "request") ≡ a → is_name name (codes "opened") ≡ b → is_name name (codes "failed") ≡ c → is_name name (codes "closed") ≡ d → is_name name (codes "response") ≡ r
+        → is_name name (codes "network") ≡ n → is_name name (codes "tick") ≡ t
+        → cond a (request_fields (part text q)) (cond b (opened_fields (part text q)) (cond c (failed_fields (part text q)) (cond d (closed_fields (part text q)) (cond r (response_fields (part text q))
+        (cond n (got (Client Network) (part text q)) (cond t (got (Client Tick) (part text q)) (refused p UnknownKind)))))))
         ≡ got event left → SpellsKind whole event
-    go true b c d e r o f l t k = request_sound text whole q event left (named (codes "request") r) ends k none
-    go false true c d e r o f l t k = opened_sound text whole q event left (named (codes "opened") o) ends k none
-    go false false true d e r o f l t k = numbered_sound (λ n. Client (Failed n)) (codes "failed") text whole q event left (λ n s. s) (named (codes "failed") f) ends k none
-    go false false false true e r o f l t k = numbered_sound (λ n. Client (Closed n)) (codes "closed") text whole q event left (λ n s. s) (named (codes "closed") l) ends k none
-    go false false false false true r o f l t k = ticked (named (codes "tick") t) k
-    go false false false false false r o f l t k = absurd (clash k)
+    go true b c d r n t is_a is_b is_c is_d is_r is_n is_t k = request_sound text whole q event left (named (codes "request") is_a) ends k none
+    go false true c d r n t is_a is_b is_c is_d is_r is_n is_t k = opened_sound text whole q event left (named (codes "opened") is_b) ends k none
+    go false false true d r n t is_a is_b is_c is_d is_r is_n is_t k = numbered_sound (λ n. Client (Failed n)) (codes "failed") text whole q event left (λ n s. s) (named (codes "failed") is_c) ends k none
+    go false false false true r n t is_a is_b is_c is_d is_r is_n is_t k = numbered_sound (λ n. Client (Closed n)) (codes "closed") text whole q event left (λ n s. s) (named (codes "closed") is_d) ends k none
+    go false false false false true n t is_a is_b is_c is_d is_r is_n is_t k = response_sound text whole q event left (named (codes "response") is_r) ends k none
+    go false false false false false true t is_a is_b is_c is_d is_r is_n is_t k = alone (codes "network") (Client Network) (λ s. s) (named (codes "network") is_n) k
+    go false false false false false false true is_a is_b is_c is_d is_r is_n is_t k = alone (codes "tick") (Client Tick) (λ s. s) (named (codes "tick") is_t) k
+    go false false false false false false false is_a is_b is_c is_d is_r is_n is_t k = absurd (clash k)

@@ -1,48 +1,71 @@
 -- Each kind is refused where its fields' forms are. A further kind is one line of `kinds_pass`.
-use Rattle.std.proofs.Common.{◌≡◌, ℕ, Bool, true, false, cond, nat_eq, List, [], ◌∷◌, codes, Ok, refl}
+use Rattle.std.proofs.Common.{◌≡◌, ℕ, Bool, true, false, cond, nat_eq, List, [], ◌∷◌, codes, Ok, Err, unwrap_or, refl}
 use Rattle.std.specs.Cmp.Lexicographic.{pointwise}
 use Rattle.origin_values.specs.HostReading.{read_addr}
 use Rattle.origin_values.specs.declared.address.Addr.{Addr}
 use Rattle.origin_values.specs.declared.origin.Origin.{Origin}
 use Rattle.origin_values.specs.declared.proto.Proto.{Proto}
 use Rattle.coalescing.specs.declared.cert_name.CertName.{CertName}
-use Rattle.route_events.specs.declared.fact.Fact.TheVariants.{Request, Opened, Failed, Closed, Tick}
+use Rattle.route_events.specs.declared.fact.Fact.TheVariants.{Request, Opened, Failed, Closed, Response, Network, Tick}
 use Rattle.event_lines.specs.Fields.{most_short, most_long, number_of, port_of, proto_of, origin_of, names_of}
 use Rattle.event_lines.specs.Parts.{Part, Reading, ◌>>=◌, field, refused}
-use Rattle.event_lines.specs.LineReading.{request_fields, opened_fields, kind_reading}
-use Rattle.event_lines.specs.LineRefusals.{OfNumber, OfPort, OfProto, OfAddr, OfOrigin, OfNames, Kind, kinds}
+use Rattle.event_lines.specs.LineReading.{request_fields, opened_fields, response_fields, kind_reading, end_reading}
+use Rattle.event_lines.specs.ResponseReading.{status_reading, reply_reading}
+use Rattle.event_lines.specs.declared.response.Reply.{Reply}
+use Rattle.event_lines.specs.LineRefusals.{OfNumber, OfPort, OfProto, OfAddr, OfOrigin, OfNames, NoMore, Then, StatusAndFields, Kind, kinds}
 use Rattle.event_lines.specs.declared.event.Event.{Event}
 use Rattle.event_lines.specs.declared.event.Event.TheVariants.{Client}
 use Rattle.event_lines.specs.declared.refusal.LineRefusal.TheVariants.{UnknownKind}
-use Rattle.event_lines.proofs.Skeleton.{Passed, pass_fields, ended, ended_field}
+use Rattle.event_lines.proofs.Refusals.{Passed}
+use Rattle.event_lines.proofs.ResponseTexts.{pass_status}
+use Rattle.event_lines.proofs.Skeleton.{pass_fields, ended, ended_field}
 
 abbrev says : Event → Part → Reading Event
 says event left = Ok (event, left)
 
-request_passes : (rest : Part) → ended (request_fields rest) ≡ pass_fields (OfNumber most_short ∷ OfOrigin ∷ []) rest
+request_passes : (rest : Part) → ended (request_fields rest) ≡ pass_fields (Then (OfNumber most_short) (Then OfOrigin NoMore)) rest
 request_passes rest =
-    ended_field (OfNumber most_short) (number_of most_short) (λ (q : ℕ × Part). field origin_of q.1 >>= λ (o : Origin × Part). says (Client (Request q.0 o.0)) o.1) (OfOrigin ∷ []) rest (λ word. refl) λ number left.
-    ended_field OfOrigin origin_of (λ (o : Origin × Part). says (Client (Request number o.0)) o.1) [] left (λ word. refl) λ origin end. refl
+    ended_field (OfNumber most_short) (number_of most_short) (λ (q : ℕ × Part). field origin_of q.1 >>= λ (o : Origin × Part). says (Client (Request q.0 o.0)) o.1) (Then OfOrigin NoMore) rest (λ word. refl) λ number left.
+    ended_field OfOrigin origin_of (λ (o : Origin × Part). says (Client (Request number o.0)) o.1) NoMore left (λ word. refl) λ origin end. refl
 
-numbered_passes : (event : ℕ → Event) (rest : Part) → ended (field (number_of most_long) rest >>= λ (n : ℕ × Part). says (event n.0) n.1) ≡ pass_fields (OfNumber most_long ∷ []) rest
+numbered_passes : (event : ℕ → Event) (rest : Part) → ended (field (number_of most_long) rest >>= λ (n : ℕ × Part). says (event n.0) n.1) ≡ pass_fields (Then (OfNumber most_long) NoMore) rest
 numbered_passes event rest =
-    ended_field (OfNumber most_long) (number_of most_long) (λ (n : ℕ × Part). says (event n.0) n.1) [] rest (λ word. refl) λ number end. refl
+    ended_field (OfNumber most_long) (number_of most_long) (λ (n : ℕ × Part). says (event n.0) n.1) NoMore rest (λ word. refl) λ number end. refl
 
-opened_passes : (rest : Part) → ended (opened_fields rest) ≡ pass_fields (OfNumber most_long ∷ OfProto ∷ OfAddr ∷ OfPort ∷ OfNames ∷ []) rest
+opened_passes : (rest : Part) → ended (opened_fields rest) ≡ pass_fields (Then (OfNumber most_long) (Then OfProto (Then OfAddr (Then OfPort (Then OfNames NoMore))))) rest
 opened_passes rest =
     ended_field (OfNumber most_long) (number_of most_long)
     (λ (a : ℕ × Part). field proto_of a.1 >>= λ (p : Proto × Part). field read_addr p.1 >>= λ (d : Addr × Part). field port_of d.1 >>= λ (t : ℕ × Part). field names_of t.1 >>= λ (n : List CertName × Part). says (Client (Opened a.0 p.0 d.0 t.0 n.0)) n.1)
-    (OfProto ∷ OfAddr ∷ OfPort ∷ OfNames ∷ []) rest (λ word. refl) λ attempt left.
+    (Then OfProto (Then OfAddr (Then OfPort (Then OfNames NoMore)))) rest (λ word. refl) λ attempt left.
     ended_field OfProto proto_of
     (λ (p : Proto × Part). field read_addr p.1 >>= λ (d : Addr × Part). field port_of d.1 >>= λ (t : ℕ × Part). field names_of t.1 >>= λ (n : List CertName × Part). says (Client (Opened attempt p.0 d.0 t.0 n.0)) n.1)
-    (OfAddr ∷ OfPort ∷ OfNames ∷ []) left (λ word. refl) λ proto left.
+    (Then OfAddr (Then OfPort (Then OfNames NoMore))) left (λ word. refl) λ proto left.
     ended_field OfAddr read_addr
     (λ (d : Addr × Part). field port_of d.1 >>= λ (t : ℕ × Part). field names_of t.1 >>= λ (n : List CertName × Part). says (Client (Opened attempt proto d.0 t.0 n.0)) n.1)
-    (OfPort ∷ OfNames ∷ []) left (λ word. refl) λ addr left.
+    (Then OfPort (Then OfNames NoMore)) left (λ word. refl) λ addr left.
     ended_field OfPort port_of
     (λ (t : ℕ × Part). field names_of t.1 >>= λ (n : List CertName × Part). says (Client (Opened attempt proto addr t.0 n.0)) n.1)
-    (OfNames ∷ []) left (λ word. refl) λ port left.
-    ended_field OfNames names_of (λ (n : List CertName × Part). says (Client (Opened attempt proto addr port n.0)) n.1) [] left (λ word. refl) λ names end. refl
+    (Then OfNames NoMore) left (λ word. refl) λ port left.
+    ended_field OfNames names_of (λ (n : List CertName × Part). says (Client (Opened attempt proto addr port n.0)) n.1) NoMore left (λ word. refl) λ names end. refl
+
+status_passes : (request : ℕ) (rest : Part)
+    → ended (status_reading rest >>= λ (s : ℕ × Part). reply_reading s.1 >>= λ (r : Reply × Part). says (Client (Response request s.0 (unwrap_or r.0.age 0) r.0.altsvc)) r.1) ≡ pass_status rest
+status_passes request rest = go (status_reading rest)
+  where
+    behind : (status : ℕ) (r : Reading Reply) → ended (r >>= λ (r : Reply × Part). says (Client (Response request status (unwrap_or r.0.age 0) r.0.altsvc)) r.1) ≡ (r >>= λ (r : Reply × Part). end_reading r.1)
+    behind status (Ok reply) = refl
+    behind status (Err at) = refl
+
+    go : (s : Reading ℕ) → ended (s >>= λ (s : ℕ × Part). reply_reading s.1 >>= λ (r : Reply × Part). says (Client (Response request s.0 (unwrap_or r.0.age 0) r.0.altsvc)) r.1)
+        ≡ (s >>= λ (s : ℕ × Part). reply_reading s.1 >>= λ (r : Reply × Part). end_reading r.1)
+    go (Ok status) = behind status.0 (reply_reading status.1)
+    go (Err at) = refl
+
+response_passes : (rest : Part) → ended (response_fields rest) ≡ pass_fields (Then (OfNumber most_short) StatusAndFields) rest
+response_passes rest =
+    ended_field (OfNumber most_short) (number_of most_short)
+    (λ (q : ℕ × Part). status_reading q.1 >>= λ (s : ℕ × Part). reply_reading s.1 >>= λ (r : Reply × Part). says (Client (Response q.0 s.0 (unwrap_or r.0.age 0) r.0.altsvc)) r.1)
+    StatusAndFields rest (λ word. refl) λ request left. status_passes request left
 
 choice : (t : Bool) (a b : Reading Event) (c d : Passed) → ended a ≡ c → ended b ≡ d → ended (cond t a b) ≡ cond t c d
 choice true a b c d h k = h
@@ -59,4 +82,6 @@ kinds_pass name rest =
     (choice (pointwise nat_eq name.text (codes "opened")) _ _ _ _ (opened_passes rest)
     (choice (pointwise nat_eq name.text (codes "failed")) _ _ _ _ (numbered_passes (λ n. Client (Failed n)) rest)
     (choice (pointwise nat_eq name.text (codes "closed")) _ _ _ _ (numbered_passes (λ n. Client (Closed n)) rest)
-    (choice (pointwise nat_eq name.text (codes "tick")) (says (Client Tick) rest) (refused name.place UnknownKind) _ _ refl refl))))
+    (choice (pointwise nat_eq name.text (codes "response")) _ _ _ _ (response_passes rest)
+    (choice (pointwise nat_eq name.text (codes "network")) (says (Client Network) rest) _ _ _ refl
+    (choice (pointwise nat_eq name.text (codes "tick")) (says (Client Tick) rest) (refused name.place UnknownKind) _ _ refl refl))))))

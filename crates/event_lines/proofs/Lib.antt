@@ -1,9 +1,17 @@
 pub mod Numbers
 pub mod Words
 pub mod Steps
+pub mod FieldParts
+pub mod FieldNames
+pub mod FieldSteps
+pub mod Appended
 pub mod NumberTexts
 pub mod FieldTexts
 pub mod Spaces
+pub mod FieldSpellings
+pub mod FieldLists
+pub mod Refusals
+pub mod ResponseTexts
 pub mod Skeleton
 pub mod KindsPass
 pub mod KindTexts
@@ -11,4 +19,5 @@ pub mod LineCases
 pub mod Lines
 pub mod RefusedLines
 pub mod InnerBytes
+pub mod WrittenResponses
 pub mod WrittenLines

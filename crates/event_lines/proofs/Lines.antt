@@ -1,7 +1,7 @@
 -- The reading of lines against their grammar.
 use Rattle.std.proofs.Common.{◌≡◌, ℕ, ◌+◌, List, [], ◌∷◌, length, codes, Ok, Err, append-nil, refl, ap, sym, ◌∙◌, subst, inl, inr}
 use Rattle.alt_base.specs.declared.refusal.At.{At}
-use Rattle.route_events.specs.declared.fact.Fact.TheVariants.{Request, Opened, Failed, Closed, Tick}
+use Rattle.route_events.specs.declared.fact.Fact.TheVariants.{Request, Opened, Failed, Closed, Response, Network, Tick}
 use Rattle.event_lines.specs.Fields.{most_short, most_long}
 use Rattle.event_lines.specs.Parts.{Part, Reading, ◌>>=◌, refused}
 use Rattle.event_lines.specs.LineReading.{kind_reading, end_reading, line_reading}
@@ -14,8 +14,11 @@ use Rattle.event_lines.specs.declared.refusal.LineRefusal.TheVariants.{BadMoment
 use Rattle.event_lines.proofs.NumberTexts.{number_complete, port_complete}
 use Rattle.event_lines.proofs.FieldTexts.{proto_complete, origin_field_complete, names_field_complete}
 use Rattle.event_lines.proofs.Spaces.{IsInner, no_space_from, next_spaced}
-use Rattle.event_lines.proofs.Skeleton.{Passed, ended}
-use Rattle.event_lines.proofs.KindTexts.{request_complete, opened_complete, numbered_complete, kind_sound}
+use Rattle.event_lines.specs.ResponseGrammar.{altsvc_of}
+use Rattle.event_lines.specs.LineRefusals.{IsNext}
+use Rattle.event_lines.proofs.Refusals.{Passed, passed_err}
+use Rattle.event_lines.proofs.Skeleton.{ended}
+use Rattle.event_lines.proofs.KindTexts.{request_complete, opened_complete, numbered_complete, response_rest, response_joined, response_complete, kind_sound}
 use Rattle.event_lines.proofs.LineCases.{Said, part, bad_line, whole, behind_moment, skip_reads, no_moment, with_moment, with_kind, no_kind, Line, Skipped, Wordless, Alone, Full, line_of}
 use Rattle.origin_values.proofs.Addresses.{read_addr_complete}
 
@@ -46,9 +49,6 @@ whole_ok now m event (Err why) h = cc
 whole_ok now m event (Ok read) h =
     let end = at_end now m read.0 event read.1.place read.1.text h in
     (end.1, record { left = read.1; is = ap (λ e. got e read.1) end.2; nothing = end.0 })
-
-passed_err : (a b : At LineRefusal) → ◌≡◌ {A = Passed} (Err a) (Err b) → a ≡ b
-passed_err a b e = cc
 
 pub said_err : (a b : At LineRefusal) → ◌≡◌ {A = Said} (Err a) (Err b) → a ≡ b
 said_err a b e = cc
@@ -124,6 +124,15 @@ kind_complete now place text (Client (Failed attempt)) s =
 kind_complete now place text (Client (Closed conn)) s =
     named now place text (codes "closed") (s.number_text ∷ []) s.spelled refl
     ∙ ap (whole now) (numbered_complete (λ n. Client (Closed n)) s.number_text conn (place + 1 + 6) s.apart (number_complete most_long s.number_text conn s.of_number))
+kind_complete now place text (Client (Response request status age altsvc)) s =
+    let rest = response_rest s.request_text s.status_text s.field_texts in
+    let next : IsNext text (codes "response") rest = record { spelled = s.spelled ∙ sym (response_joined s.request_text s.status_text s.field_texts); apart = no_space_from (codes "response") refl; end = refl } in
+    let read = response_complete s.request_text s.status_text s.field_texts s.fields request status (place + 1 + 8) s.apart (number_complete most_short s.request_text request s.of_request) s.of_status s.of_fields s.within in
+    with_kind now place text (codes "response") rest next
+    ∙ ap (whole now) read.1
+    ∙ ap (λ a. said now (Client (Response request status a (altsvc_of s.fields)))) (sym s.of_age)
+    ∙ ap (λ v. said now (Client (Response request status age v))) (sym s.of_altsvc)
+kind_complete now place text (Client Network) s = named now place text (codes "network") [] s refl
 kind_complete now place text (Client Tick) s = named now place text (codes "tick") [] s refl
 kind_complete now place text Skip s = absurd s
 
@@ -135,6 +144,8 @@ kind_ends text (Client (Request number origin)) s = begins_spaced text _ s.spell
 kind_ends text (Client (Opened attempt proto addr port names)) s = begins_spaced text _ s.spelled
 kind_ends text (Client (Failed attempt)) s = begins_spaced text _ s.spelled
 kind_ends text (Client (Closed conn)) s = begins_spaced text _ s.spelled
+kind_ends text (Client (Response request status age altsvc)) s = begins_spaced text _ s.spelled
+kind_ends text (Client Network) s = begins_spaced text _ s
 kind_ends text (Client Tick) s = begins_spaced text _ s
 kind_ends text Skip s = absurd s
 

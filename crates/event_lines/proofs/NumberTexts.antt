@@ -1,12 +1,12 @@
 -- Numbers and ports against their grammar.
-use Rattle.std.proofs.Common.{◌≡◌, ◌≢◌, ℕ, ◌<◌, ◌≤◌, Bool, true, false, cond, not, ◌&&◌, nat_eq, nat_le, nat_lt, List, [], ◌∷◌, Option, None, Some, refl, ap, sym, ◌∙◌, subst, arith}
+use Rattle.std.proofs.Common.{◌≡◌, ◌≢◌, ℕ, ◌<◌, ◌≤◌, Bool, true, false, cond, not, ◌&&◌, nat_eq, nat_le, nat_lt, List, [], ◌∷◌, length, Option, None, Some, refl, ap, sym, ◌∙◌, subst, arith}
 use Rattle.std.specs.List.{list_all}
 use Rattle.std.specs.Option.{option_and_then}
 use Rattle.std.specs.Char.{is_ascii_digit, digit_value}
 use Rattle.std.specs.Str.Parse.{AllDigits, IsNumeral, digits_value}
 use Rattle.origin_values.proofs.Names.{digits_pass}
-use Rattle.event_lines.specs.Fields.{is_number, number_within, number_of, unless_zero, port_of, most_port}
-use Rattle.event_lines.specs.LineGrammar.{NoLeadingZero, SpellsNumber, SpellsPort}
+use Rattle.event_lines.specs.Fields.{is_number, number_within, number_of, unless_zero, port_of, most_port, most_status, final_status, status_of}
+use Rattle.event_lines.specs.LineGrammar.{NoLeadingZero, SpellsNumber, SpellsPort, SpellsStatus}
 use Rattle.event_lines.proofs.Numbers.{le_from_test, test_from_le, digit_code, value_of_digit}
 use Rattle.alt_base.proofs.Conjunctions.{both}
 
@@ -95,3 +95,37 @@ pub port_complete : (text : List ℕ) (port : ℕ) → SpellsPort text port → 
 port_complete text port s =
     ap (option_and_then unless_zero) (number_complete most_port text port s.number)
     ∙ ap (λ t. cond t (Some port) None) (test_from_lt 0 port (omega (arith, s.some)))
+
+eq_from_test : (a b : ℕ) → nat_eq a b ≡ true → a ≡ b
+eq_from_test a b h = grind arith
+
+test_from_eq : (a b : ℕ) → a ≡ b → nat_eq a b ≡ true
+test_from_eq a b h = grind arith
+
+pub status_sound : (text : List ℕ) (status : ℕ) → status_of text ≡ Some status → SpellsStatus text status
+status_sound text status h = go (nat_eq (length text) 3) refl h
+  where
+    checked : (n : ℕ) → final_status n ≡ Some status → (n ≡ status) × (200 ≤ n) × (n ≢ 421)
+    checked n e = at (nat_le 200 n) refl (nat_eq n 421) refl e
+      where
+        at : (a : Bool) → nat_le 200 n ≡ a → (b : Bool) → nat_eq n 421 ≡ b → cond (a && not b) (Some n) None ≡ Some status → (n ≡ status) × (200 ≤ n) × (n ≢ 421)
+        at true is false other f = (cc, le_from_test 200 n is, other_from_test n 421 other)
+        at true is true other f = cc
+        at false is b other f = cc
+
+    number : (o : Option ℕ) → number_of most_status text ≡ o → length text ≡ 3 → option_and_then final_status o ≡ Some status → SpellsStatus text status
+    number None is three e = cc
+    number (Some n) is three e =
+        let p = checked n e in
+        record { three = three; number = subst (SpellsNumber most_status text) p.0 (number_sound most_status text n is); final = omega (arith, p.0, p.1); not_misdirected = λ k. p.2 (p.0 ∙ k) }
+
+    go : (t : Bool) → nat_eq (length text) 3 ≡ t → cond t (option_and_then final_status (number_of most_status text)) None ≡ Some status → SpellsStatus text status
+    go true is e = number (number_of most_status text) refl (eq_from_test (length text) 3 is) e
+    go false is e = cc
+
+pub status_complete : (text : List ℕ) (status : ℕ) → SpellsStatus text status → status_of text ≡ Some status
+status_complete text status s =
+    ap (λ t. cond t (option_and_then final_status (number_of most_status text)) None) (test_from_eq (length text) 3 s.three)
+    ∙ ap (option_and_then final_status) (number_complete most_status text status s.number)
+    ∙ ap (λ t. cond (t && not (nat_eq status 421)) (Some status) None) (test_from_le 200 status s.final)
+    ∙ ap (λ t. cond (true && not t) (Some status) None) (test_from_other status 421 s.not_misdirected)

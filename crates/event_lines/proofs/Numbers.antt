@@ -32,7 +32,7 @@ value_of_digit b h =
     rw (test_from_ge b 48 code.0, test_from_lt b 58 (omega (arith, code.1))) refl
 
 -- more digits only make the value larger
-value_grows : (ds : List ℕ) (n : ℕ) → n ≤ digits_value_after 10 n ds
+pub value_grows : (ds : List ℕ) (n : ℕ) → n ≤ digits_value_after 10 n ds
 value_grows [] n = omega arith
 value_grows (c ∷ cs) n = omega (arith, value_grows cs (n * 10 + digit_value c))
 

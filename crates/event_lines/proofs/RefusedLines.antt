@@ -3,22 +3,20 @@ use Rattle.std.proofs.Common.{◌≡◌, ◌≢◌, ◌⊎◌, ℕ, ◌+◌, Boo
 use Rattle.std.specs.Cmp.Lexicographic.{pointwise, same_text, other_text}
 use Rattle.alt_base.specs.declared.refusal.At.{At}
 use Rattle.event_lines.specs.Fields.{most_short, number_of}
-use Rattle.event_lines.specs.Parts.{Part, refused}
+use Rattle.event_lines.specs.Parts.{Part}
 use Rattle.event_lines.specs.LineReading.{kind_reading, line_reading}
 use Rattle.event_lines.specs.LineGrammar.{SpellsNumber, SpellsLine}
-use Rattle.event_lines.specs.LineRefusals.{EndsWord, IsNext, Form, Kind, kinds, IsAmong, IsNone, FieldsRefusedAt, IsOtherKind, IsWrongField, LineRefusedAt, OneLine}
+use Rattle.event_lines.specs.LineRefusals.{EndsWord, IsNext, Forms, NoMore, Then, StatusAndFields, Kind, kinds, IsAmong, IsNone, FieldsRefusedAt, IsOtherKind, IsWrongField, LineRefusedAt, OneLine}
 use Rattle.event_lines.specs.declared.event.Event.{Event}
 use Rattle.event_lines.specs.declared.event.Event.TheVariants.{Skip}
 use Rattle.event_lines.specs.declared.refusal.LineRefusal.{LineRefusal}
 use Rattle.event_lines.specs.declared.refusal.LineRefusal.TheVariants.{BadMoment, UnknownKind, BadField, ExtraField}
 use Rattle.event_lines.proofs.NumberTexts.{number_sound, number_complete}
-use Rattle.event_lines.proofs.Skeleton.{Passed, pass_fields, fields_refused, fields_say, refusal_parts}
+use Rattle.event_lines.proofs.Refusals.{bad, refusal_parts}
+use Rattle.event_lines.proofs.Skeleton.{pass_fields, fields_refused, fields_say}
 use Rattle.event_lines.proofs.KindsPass.{pass_kind, kinds_pass}
 use Rattle.event_lines.proofs.LineCases.{Said, part, bad_line, whole, skip_reads, no_moment, with_moment, with_kind, no_kind, Kinded, Line, Skipped, Wordless, Alone, Full, line_of}
 use Rattle.event_lines.proofs.Lines.{said, said_parts, said_err, at_place, whole_refused, whole_says, line_sound, line_complete}
-
-abbrev bad : ℕ → LineRefusal → Passed
-bad place reason = refused place reason
 
 refused_parts : (p q : ℕ) (r s : LineRefusal) → bad_line p r ≡ bad_line q s → (p ≡ q) × (r ≡ s)
 refused_parts p q r s e =
@@ -44,7 +42,7 @@ none_pass [] name p rest h = refl
 none_pass (kind ∷ more) name p rest h =
     ap (λ t. cond t (pass_fields kind.forms rest) (pass_kind more (part name p) rest)) (other_name name kind.name h.0) ∙ none_pass more name p rest h.1
 
-among_pass : (kinds : List Kind) (name : List ℕ) (forms : List Form) (p : ℕ) (rest : Part) → IsAmong kinds name forms → pass_kind kinds (part name p) rest ≡ pass_fields forms rest
+among_pass : (kinds : List Kind) (name : List ℕ) (forms : Forms) (p : ℕ) (rest : Part) → IsAmong kinds name forms → pass_kind kinds (part name p) rest ≡ pass_fields forms rest
 among_pass [] name forms p rest h = absurd h
 among_pass (kind ∷ more) name forms p rest (inl h) =
     ap (λ t. cond t (pass_fields kind.forms rest) (pass_kind more (part name p) rest)) (name_test name kind.name h.0) ∙ ap (λ f. pass_fields f rest) (sym h.1)
@@ -53,7 +51,7 @@ among_pass (kind ∷ more) name forms p rest (inr h) =
 
 -- a name is that of a kind, or of none
 record Known (kinds : List Kind) (name : List ℕ) : Type 0 where
-  forms : List Form
+  forms : Forms
   among : IsAmong kinds name forms
 
 known : (kinds : List Kind) (name : List ℕ) → Known kinds name ⊎ IsNone kinds name
@@ -110,11 +108,15 @@ line_refused line place BadField s = wrong_field line place BadField s
 line_refused line place ExtraField s = wrong_field line place ExtraField s
 
 -- fields are refused for two reasons alone
-field_reason : (forms : List Form) (begin : ℕ) (text : List ℕ) (place : ℕ) (reason : LineRefusal) → FieldsRefusedAt forms begin text place reason → (reason ≡ BadField) ⊎ (reason ≡ ExtraField)
-field_reason [] begin text place reason s = inr s.why
-field_reason (form ∷ forms) begin text place reason (inl s) = inl s.why
-field_reason (form ∷ forms) begin text place reason (inr (inl s)) = inl s.why
-field_reason (form ∷ forms) begin text place reason (inr (inr s)) = field_reason forms (begin + 1 + length s.word) s.behind place reason s.later
+field_reason : (forms : Forms) (begin : ℕ) (text : List ℕ) (place : ℕ) (reason : LineRefusal) → FieldsRefusedAt forms begin text place reason → (reason ≡ BadField) ⊎ (reason ≡ ExtraField)
+field_reason NoMore begin text place reason s = inr s.why
+field_reason StatusAndFields begin text place reason (inl s) = inl s.why
+field_reason StatusAndFields begin text place reason (inr (inl s)) = inl s.why
+field_reason StatusAndFields begin text place reason (inr (inr (inl s))) = inr s.why
+field_reason StatusAndFields begin text place reason (inr (inr (inr s))) = inl s.why
+field_reason (Then form forms) begin text place reason (inl s) = inl s.why
+field_reason (Then form forms) begin text place reason (inr (inl s)) = inl s.why
+field_reason (Then form forms) begin text place reason (inr (inr s)) = field_reason forms (begin + 1 + length s.word) s.behind place reason s.later
 
 as_table : (line : List ℕ) (place : ℕ) (reason : LineRefusal) → (reason ≡ BadField) ⊎ (reason ≡ ExtraField) → IsWrongField line place reason → LineRefusedAt line place reason
 as_table line place BadField why s = s

@@ -1,6 +1,9 @@
 -- The line of an event says it, and what a line says has a line.
-use Rattle.std.proofs.Common.{◌≡◌, ℕ, zero, suc, ◌<◌, ◌≤◌, ◌^◌, List, [], ◌∷◌, ◌++◌, get_or, decimal, codes, append_assoc, append-nil, refl, sym, subst, arith, inl, inr}
+use Rattle.std.proofs.Common.{◌≡◌, ℕ, zero, suc, ◌+◌, ◌*◌, true, ◌<◌, ◌≤◌, ◌^◌, List, [], ◌∷◌, ◌++◌, length, Option, Some, None, ◌≢◌, get_or, decimal, codes, append_assoc, append-nil, refl, sym, subst, arith, inl, inr}
 use Rattle.std.proofs.lemmas.Fmt.{decimal_is_IsNumeral, decimal_digit, first_decimal}
+use Rattle.std.proofs.lemmas.Str.Parse.{digit_from_value}
+use Rattle.std.specs.Char.{is_ascii_digit, digit_value}
+use Rattle.event_lines.proofs.Numbers.{test_from_le, value_grows, value_of_digit}
 use Rattle.origin_values.specs.Written.{addr_text, origin_text}
 use Rattle.origin_values.specs.declared.address.Addr.{Addr}
 use Rattle.origin_values.specs.declared.proto.Proto.{Proto}
@@ -11,14 +14,15 @@ use Rattle.coalescing.specs.NamesWritten.{names_text}
 use Rattle.coalescing.specs.declared.cert_name.CertName.{CertName}
 use Rattle.coalescing.proofs.NamesTexts.{names_written, names_valid}
 use Rattle.route_events.specs.declared.fact.Fact.{Fact}
-use Rattle.route_events.specs.declared.fact.Fact.TheVariants.{Request, Opened, Failed, Closed, Tick}
+use Rattle.route_events.specs.declared.fact.Fact.TheVariants.{Request, Opened, Failed, Closed, Response, Network, Tick}
 use Rattle.event_lines.specs.EventTexts.{proto_text, opened_text, fact_text, event_text}
-use Rattle.event_lines.specs.Fields.{most_short, most_long, most_port}
-use Rattle.event_lines.specs.HaveLines.{HasOpenedLine, HasFactLine, HasLine}
-use Rattle.event_lines.specs.LineGrammar.{NoLeadingZero, SpellsNumber, NoSpace, spaced, SpellsOpened, SpellsKind, SpellsEvent, SpellsLine}
+use Rattle.event_lines.specs.Fields.{most_short, most_long, most_port, most_status}
+use Rattle.event_lines.specs.HaveLines.{HasOpenedLine, HasFactLine, HasLine, HasNoLastSpace}
+use Rattle.event_lines.specs.LineGrammar.{NoLeadingZero, SpellsNumber, SpellsStatus, NoSpace, spaced, SpellsOpened, SpellsKind, SpellsEvent, SpellsLine}
 use Rattle.event_lines.specs.LineReading.{line_reading}
 use Rattle.event_lines.specs.declared.event.Event.{Event}
 use Rattle.event_lines.specs.declared.event.Event.TheVariants.{Client, Skip}
+use Rattle.event_lines.proofs.WrittenResponses.{number_value, response_written, EndsPlain, response_valid}
 use Rattle.event_lines.proofs.InnerBytes.{number_inner, addr_inner, origin_inner, names_inner}
 use Rattle.event_lines.proofs.Spaces.{IsInner, no_space_from}
 use Rattle.event_lines.proofs.Lines.{said, line_complete}
@@ -86,6 +90,31 @@ opened_written attempt proto addr port names h = record {
   of_names = names_written names h.of_names;
 }
 
+digit_test : (b : ℕ) → 48 ≤ b → b ≤ 57 → is_ascii_digit b ≡ true
+digit_test b low high = rw (test_from_le 48 b low, test_from_le b 57 high) refl
+
+-- a digit other than 0
+first_digit : (b : ℕ) → digit_value b < 10 → b ≢ 48 → 1 ≤ digit_value b
+first_digit b h other =
+    let range = digit_from_value b h in
+    let value = value_of_digit b (digit_test b (omega (arith, range.0)) (omega (arith, range.1))) in
+    omega (arith, value, range.0)
+
+-- a status has three digits
+three_digits : (text : List ℕ) (n : ℕ) → SpellsNumber most_status text n → 200 ≤ n → length text ≡ 3
+three_digits [] n s least = absurd (omega (arith, s.numeral.0))
+three_digits (a ∷ []) n s least = absurd (omega (arith, s.value, s.numeral.1.0))
+three_digits (a ∷ b ∷ []) n s least = absurd (omega (arith, s.value, s.numeral.1.0, s.numeral.1.1.0))
+three_digits (a ∷ b ∷ c ∷ []) n s least = refl
+three_digits (a ∷ b ∷ c ∷ d ∷ ds) n s least =
+    let some = first_digit a s.numeral.1.0 s.no_zero in
+    absurd (omega (arith, s.value, s.within, some, value_grows ds ((((0 * 10 + digit_value a) * 10 + digit_value b) * 10 + digit_value c) * 10 + digit_value d)))
+
+status_written : (status : ℕ) → 200 ≤ status → status ≤ most_status → status ≢ 421 → SpellsStatus (decimal status) status
+status_written status least within other =
+    let number = number_written most_status status (omega arith) within in
+    record { three = three_digits (decimal status) status number least; number = number; final = least; not_misdirected = other }
+
 fact_written : (fact : Fact) → HasFactLine fact → SpellsKind (32 ∷ fact_text fact) (Client fact)
 fact_written (Request number origin) h = record {
   number_text = decimal number;
@@ -98,6 +127,11 @@ fact_written (Request number origin) h = record {
 fact_written (Opened attempt proto addr port names) h = opened_written attempt proto addr port names h
 fact_written (Failed attempt) h = record { number_text = decimal attempt; spelled = failed_joined (decimal attempt); apart = number_apart most_long attempt (omega arith) h; of_number = number_written most_long attempt (omega arith) h }
 fact_written (Closed conn) h = record { number_text = decimal conn; spelled = closed_joined (decimal conn); apart = number_apart most_long conn (omega arith) h; of_number = number_written most_long conn (omega arith) h }
+fact_written (Response request status age altsvc) h =
+    response_written request status age altsvc h.of_altsvc (number_value age (omega (arith, h.age_within)) (no_space_from (decimal age) (number_inner age (omega (arith, h.age_within))))) h.age_within
+    (number_apart most_short request (omega arith) h.request_within) (number_written most_short request (omega arith) h.request_within)
+    (status_written status h.final h.status_within h.not_misdirected)
+fact_written Network h = refl
 fact_written Tick h = refl
 
 -- the line of an event says it
@@ -115,23 +149,29 @@ pub line_back : (now : ℕ) (event : Event) → HasLine now event → line_readi
 line_back now event h = line_complete (event_text now event) now event (line_written now event h)
 
 -- what a line says has a line
-fact_valid : (text : List ℕ) (fact : Fact) → SpellsKind text (Client fact) → HasFactLine fact
-fact_valid text (Request number origin) s = (s.of_number.within, origin_valid s.origin_text origin s.of_origin)
-fact_valid text (Opened attempt proto addr port names) s = record {
+plain_end : (request status age : ℕ) (altsvc : Option (List ℕ)) → HasNoLastSpace (Client (Response request status age altsvc)) → EndsPlain altsvc
+plain_end request status age None h = tt
+plain_end request status age (Some value) h = h
+
+fact_valid : (text : List ℕ) (fact : Fact) → SpellsKind text (Client fact) → HasNoLastSpace (Client fact) → HasFactLine fact
+fact_valid text (Request number origin) s end = (s.of_number.within, origin_valid s.origin_text origin s.of_origin)
+fact_valid text (Opened attempt proto addr port names) s end = record {
   attempt_within = s.of_attempt.within;
   of_addr = addr_valid s.addr_text addr s.of_addr;
   some_port = s.of_port.some;
   port_within = s.of_port.number.within;
   of_names = names_valid s.names_text names s.of_names;
 }
-fact_valid text (Failed attempt) s = s.of_number.within
-fact_valid text (Closed conn) s = s.of_number.within
-fact_valid text Tick s = tt
+fact_valid text (Failed attempt) s end = s.of_number.within
+fact_valid text (Closed conn) s end = s.of_number.within
+fact_valid text (Response request status age altsvc) s end = response_valid text request status age altsvc s (plain_end request status age altsvc end)
+fact_valid text Network s end = tt
+fact_valid text Tick s end = tt
 
-event_valid : (line : List ℕ) (now : ℕ) (event : Event) → SpellsEvent line now event → HasLine now event
-event_valid line now (Client fact) s = (s.of_moment.within, fact_valid s.text fact s.of_kind)
-event_valid line now Skip s = absurd s.of_kind
+event_valid : (line : List ℕ) (now : ℕ) (event : Event) → SpellsEvent line now event → HasNoLastSpace event → HasLine now event
+event_valid line now (Client fact) s end = (s.of_moment.within, fact_valid s.text fact s.of_kind end)
+event_valid line now Skip s end = absurd s.of_kind
 
-pub line_valid : (line : List ℕ) (now : ℕ) (event : Event) → SpellsLine line now event → HasLine now event
-line_valid line now event (inl s) = subst (HasLine now) (sym s.nothing) s.at
-line_valid line now event (inr s) = event_valid line now event s
+pub line_valid : (line : List ℕ) (now : ℕ) (event : Event) → SpellsLine line now event → HasNoLastSpace event → HasLine now event
+line_valid line now event (inl s) end = subst (HasLine now) (sym s.nothing) s.at
+line_valid line now event (inr s) end = event_valid line now event s end

@@ -5,14 +5,28 @@ use Rattle.origin_values.specs.Written.{origin_text, host_text}
 use Rattle.origin_values.specs.declared.host.Host.{Host}
 use Rattle.origin_values.specs.declared.origin.Origin.{Origin}
 use Rattle.origin_values.specs.declared.protos.Protos.{Protos}
+use Rattle.altsvc_grammar.specs.Written.{value_text}
+use Rattle.altsvc_grammar.specs.declared.alt_svc.AltSvc.{AltSvc}
 use Rattle.route_events.specs.Authority.{protocols}
+use Rattle.route_events.specs.Dispatch.{host_or}
 use Rattle.route_events.specs.declared.action.Action.{Action}
-use Rattle.route_events.specs.declared.action.Action.TheVariants.{OpenTo, SendOn, Refuse, Lost}
+use Rattle.route_events.specs.declared.action.Action.TheVariants.{OpenTo, SendOn, Refuse, Lost, Alternatives, Field}
 use Rattle.route_events.specs.declared.route.Route.{Route}
-use Rattle.route_events.specs.declared.route.Route.TheVariants.{Direct}
+use Rattle.route_events.specs.declared.route.Route.TheVariants.{Direct, Alt}
 
 abbrev pub route_text : Route → List ℕ
 route_text Direct = codes "direct"
+route_text (Alt key) = codes "alt"
+
+-- the host and the port that a route goes to: the origin's own for the direct one, the alternative's for another
+-- (RFC 7838 2), which may be at the origin's host
+abbrev pub route_host : Route → Origin → Host
+route_host Direct origin = origin.host
+route_host (Alt key) origin = host_or key.host origin.host
+
+abbrev pub route_port : Route → Origin → ℕ
+route_port Direct origin = origin.port
+route_port (Alt key) origin = key.port
 
 -- a name before others, where it is to be there
 abbrev pub if_in : Bool → List ℕ → List (List ℕ) → List (List ℕ)
@@ -31,7 +45,8 @@ protos_text protos = join_with_byte 44 (proto_names protos)
 abbrev pub open_text : ℕ → Origin → Route → List ℕ
 open_text attempt origin route =
     codes "open " ++ decimal attempt ++ codes " " ++ origin_text origin ++ codes " " ++ route_text route ++ codes " "
-    ++ protos_text (protocols origin.scheme route) ++ codes " " ++ host_text origin.host ++ codes " " ++ decimal origin.port
+    ++ protos_text (protocols origin.scheme route) ++ codes " " ++ host_text (route_host route origin) ++ codes " "
+    ++ decimal (route_port route origin)
 
 abbrev pub send_text : ℕ → ℕ → List ℕ
 send_text request conn = codes "send " ++ decimal request ++ codes " on " ++ decimal conn
@@ -50,8 +65,18 @@ abbrev pub alt_used_text : Option (Host × ℕ) → List ℕ
 alt_used_text None = []
 alt_used_text (Some used) = codes " alt-used " ++ authority_text used.0 used.1
 
+-- a value of Alt-Svc that was taken for an origin, in its canonical text
+abbrev pub alternatives_text : Origin → AltSvc → List ℕ
+alternatives_text origin value = codes "alternatives " ++ origin_text origin ++ codes " " ++ value_text value
+
+-- the request whose response has an Alt-Svc that wasn't taken, the reason and the place
+abbrev pub ignored_field_text : ℕ → ℕ → ℕ → List ℕ
+ignored_field_text request reason place = codes "field " ++ decimal request ++ codes " " ++ decimal reason ++ codes " " ++ decimal place
+
 abbrev pub action_text : Action → List ℕ
 action_text (OpenTo attempt origin route) = open_text attempt origin route
 action_text (SendOn request conn stream alt_used) = send_text request conn ++ stream_text stream ++ alt_used_text alt_used
 action_text (Refuse request) = codes "refuse " ++ decimal request
 action_text (Lost request) = codes "lost " ++ decimal request
+action_text (Alternatives origin value) = alternatives_text origin value
+action_text (Field request reason place) = ignored_field_text request reason place

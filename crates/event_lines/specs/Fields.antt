@@ -1,5 +1,5 @@
 -- Reading each kind of field.
-use Rattle.std.specs.Prelude.{ℕ, Bool, false, not, ◌&&◌, nat_eq, nat_le, nat_lt, List, [], ◌∷◌, codes, Option, Some, None, Result, Ok, Err, if◌then◌else◌}
+use Rattle.std.specs.Prelude.{ℕ, Bool, false, not, ◌&&◌, nat_eq, nat_le, nat_lt, List, [], ◌∷◌, length, codes, Option, Some, None, Result, Ok, Err, if◌then◌else◌}
 use Rattle.std.specs.Option.{option_and_then}
 use Rattle.std.specs.List.{list_all}
 use Rattle.std.specs.Char.{is_ascii_digit}
@@ -40,6 +40,18 @@ unless_zero n = if nat_lt 0 n then Some n else None
 
 abbrev pub port_of : List ℕ → Option ℕ
 port_of text = option_and_then unless_zero (number_of most_port text)
+
+-- the greatest status
+abbrev pub most_status : ℕ
+most_status = 599
+
+-- a status of a final response (RFC 9110 15). A 421 (RFC 9110 15.5.20) isn't read yet.
+abbrev pub final_status : ℕ → Option ℕ
+final_status n = if nat_le 200 n && not (nat_eq n 421) then Some n else None
+
+-- three digits
+abbrev pub status_of : List ℕ → Option ℕ
+status_of text = if nat_eq (length text) 3 then option_and_then final_status (number_of most_status text) else None
 
 abbrev pub proto_of : List ℕ → Option Proto
 proto_of text =

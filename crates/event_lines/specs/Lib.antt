@@ -2,6 +2,8 @@ pub mod ActionTexts
 pub mod EventTexts
 pub mod Parts
 pub mod Fields
+pub mod ResponseGrammar
+pub mod ResponseReading
 pub mod LineReading
 pub mod Reads
 pub mod LineGrammar

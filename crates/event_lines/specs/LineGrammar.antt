@@ -1,6 +1,6 @@
 -- The lines, each beside the moment and the event that it says, by how the line splits. A further kind is one case of
 -- `SpellsKind`.
-use Rattle.std.specs.Prelude.{◌≡◌, ◌≢◌, ◌⊎◌, ℕ, ◌≤◌, List, [], ◌∷◌, ◌++◌, codes}
+use Rattle.std.specs.Prelude.{◌≡◌, ◌≢◌, ◌⊎◌, ℕ, ◌≤◌, List, [], ◌∷◌, ◌++◌, length, codes, Option}
 use Rattle.std.specs.Str.Parse.{IsNumeral, digits_value}
 use Rattle.origin_values.specs.HostGrammar.{SpellsAddr}
 use Rattle.origin_values.specs.OriginGrammar.{SpellsOrigin}
@@ -9,9 +9,10 @@ use Rattle.origin_values.specs.declared.origin.Origin.{Origin}
 use Rattle.origin_values.specs.declared.proto.Proto.{Proto}
 use Rattle.coalescing.specs.NamesGrammar.{SpellsNames}
 use Rattle.coalescing.specs.declared.cert_name.CertName.{CertName}
-use Rattle.route_events.specs.declared.fact.Fact.TheVariants.{Request, Opened, Failed, Closed, Tick}
+use Rattle.route_events.specs.declared.fact.Fact.TheVariants.{Request, Opened, Failed, Closed, Response, Network, Tick}
 use Rattle.event_lines.specs.EventTexts.{proto_text}
-use Rattle.event_lines.specs.Fields.{most_short, most_long, most_port}
+use Rattle.event_lines.specs.Fields.{most_short, most_long, most_port, most_status}
+use Rattle.event_lines.specs.ResponseGrammar.{Field, SpellFields, tabbed, most_fields, age_of, altsvc_of}
 use Rattle.event_lines.specs.declared.event.Event.{Event}
 use Rattle.event_lines.specs.declared.event.Event.TheVariants.{Client, Skip}
 
@@ -32,6 +33,13 @@ pub record SpellsNumber (most : ℕ) (text : List ℕ) (n : ℕ) : Type 0 where
 pub record SpellsPort (text : List ℕ) (port : ℕ) : Type 0 where
   pub number : SpellsNumber most_port text port
   pub some : 1 ≤ port
+
+-- a status of a final response (RFC 9110 15) has three digits and is 200 to 599. A 421 (RFC 9110 15.5.20) isn't read yet.
+pub record SpellsStatus (text : List ℕ) (status : ℕ) : Type 0 where
+  pub three : length text ≡ 3
+  pub number : SpellsNumber most_status text status
+  pub final : 200 ≤ status
+  pub not_misdirected : status ≢ 421
 
 abbrev pub SpellsProto : List ℕ → Proto → Type 0
 SpellsProto text proto = text ≡ proto_text proto
@@ -81,12 +89,29 @@ pub record SpellsNumbered (kind text : List ℕ) (number : ℕ) : Type 0 where
   pub apart : NoSpace number_text
   pub of_number : SpellsNumber most_long number_text number
 
+-- `response Q STATUS`, and at most 64 fields, each behind a tab
+pub record SpellsResponse (text : List ℕ) (request status age : ℕ) (altsvc : Option (List ℕ)) : Type 0 where
+  pub request_text : List ℕ
+  pub status_text : List ℕ
+  pub field_texts : List (List ℕ)
+  pub fields : List Field
+  pub spelled : text ≡ spaced (codes "response" ∷ request_text ∷ status_text ∷ []) ++ tabbed field_texts
+  pub apart : NoSpace request_text
+  pub of_request : SpellsNumber most_short request_text request
+  pub of_status : SpellsStatus status_text status
+  pub of_fields : SpellFields field_texts fields
+  pub within : length field_texts ≤ most_fields
+  pub of_age : age ≡ age_of fields
+  pub of_altsvc : altsvc ≡ altsvc_of fields
+
 -- what follows the moment: a space, the kind, and the kind's fields
 abbrev pub SpellsKind : List ℕ → Event → Type 0
 SpellsKind text (Client (Request number origin)) = SpellsRequest text number origin
 SpellsKind text (Client (Opened attempt proto addr port names)) = SpellsOpened text attempt proto addr port names
 SpellsKind text (Client (Failed attempt)) = SpellsNumbered (codes "failed") text attempt
 SpellsKind text (Client (Closed conn)) = SpellsNumbered (codes "closed") text conn
+SpellsKind text (Client (Response request status age altsvc)) = SpellsResponse text request status age altsvc
+SpellsKind text (Client Network) = text ≡ spaced (codes "network" ∷ [])
 SpellsKind text (Client Tick) = text ≡ spaced (codes "tick" ∷ [])
 SpellsKind text Skip = ⊥
 

@@ -1,12 +1,13 @@
 -- Reading a line: its moment, its kind, and the fields of the kind. A further kind is one case of `kind_reading`, and the
 -- reading of its fields.
-use Rattle.std.specs.Prelude.{ℕ, ◌+◌, Bool, true, nat_eq, List, [], ◌∷◌, codes, Result, Ok, if◌then◌else◌}
+use Rattle.std.specs.Prelude.{ℕ, ◌+◌, Bool, true, nat_eq, List, [], ◌∷◌, codes, Result, Ok, unwrap_or, if◌then◌else◌}
 use Rattle.std.specs.Cmp.Lexicographic.{pointwise}
 use Rattle.alt_base.specs.declared.refusal.At.{At}
 use Rattle.origin_values.specs.HostReading.{read_addr}
-use Rattle.route_events.specs.declared.fact.Fact.TheVariants.{Request, Opened, Failed, Closed, Tick}
+use Rattle.route_events.specs.declared.fact.Fact.TheVariants.{Request, Opened, Failed, Closed, Response, Network, Tick}
 use Rattle.event_lines.specs.Fields.{most_short, most_long, number_of, port_of, proto_of, origin_of, names_of}
 use Rattle.event_lines.specs.Parts.{Part, first_word, behind_word, refused, Reading, ◌>>=◌, next_word, value_or, field}
+use Rattle.event_lines.specs.ResponseReading.{status_reading, reply_reading}
 use Rattle.event_lines.specs.declared.event.Event.{Event}
 use Rattle.event_lines.specs.declared.event.Event.TheVariants.{Client, Skip}
 use Rattle.event_lines.specs.declared.refusal.LineRefusal.{LineRefusal}
@@ -41,6 +42,14 @@ closed_fields rest = do
   conn ← field (number_of most_long) rest
   Ok (Client (Closed conn.0), conn.1)
 
+-- `response Q STATUS`, and the fields of the response
+abbrev pub response_fields : Part → Reading Event
+response_fields rest = do
+  request ← field (number_of most_short) rest
+  status ← status_reading request.1
+  reply ← reply_reading status.1
+  Ok (Client (Response request.0 status.0 (unwrap_or reply.0.age 0) reply.0.altsvc), reply.1)
+
 abbrev pub is_kind : List ℕ → List ℕ → Bool
 is_kind kind word = pointwise nat_eq kind word
 
@@ -51,8 +60,10 @@ kind_reading kind rest =
     else (if is_kind kind.text (codes "opened") then opened_fields rest
     else (if is_kind kind.text (codes "failed") then failed_fields rest
     else (if is_kind kind.text (codes "closed") then closed_fields rest
+    else (if is_kind kind.text (codes "response") then response_fields rest
+    else (if is_kind kind.text (codes "network") then Ok (Client Network, rest)
     else (if is_kind kind.text (codes "tick") then Ok (Client Tick, rest)
-    else refused kind.place UnknownKind))))
+    else refused kind.place UnknownKind))))))
 
 -- nothing is left, or a field follows the last one
 abbrev pub nothing_at : List ℕ → ℕ → Result (Unit {0}) (At LineRefusal)

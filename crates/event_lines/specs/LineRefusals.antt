@@ -1,5 +1,5 @@
 -- The table of refusals of lines, each with its place, by how the line splits. A further kind is one case of `kinds`.
-use Rattle.std.specs.Prelude.{◌≡◌, ◌≢◌, ◌⊎◌, ℕ, ◌+◌, List, [], ◌∷◌, ◌++◌, length, codes}
+use Rattle.std.specs.Prelude.{◌≡◌, ◌≢◌, ◌⊎◌, ℕ, ◌+◌, ◌≤◌, List, [], ◌∷◌, ◌++◌, length, codes}
 use Rattle.origin_values.specs.HostGrammar.{SpellsAddr}
 use Rattle.origin_values.specs.OriginGrammar.{SpellsOrigin}
 use Rattle.origin_values.specs.declared.address.Addr.{Addr}
@@ -8,7 +8,9 @@ use Rattle.origin_values.specs.declared.proto.Proto.{Proto}
 use Rattle.coalescing.specs.NamesGrammar.{SpellsNames}
 use Rattle.coalescing.specs.declared.cert_name.CertName.{CertName}
 use Rattle.event_lines.specs.Fields.{most_short, most_long}
-use Rattle.event_lines.specs.LineGrammar.{SpellsNumber, SpellsPort, SpellsProto, NoSpace, IsSkipped, SpellsLine}
+use Rattle.event_lines.specs.LineGrammar.{SpellsNumber, SpellsPort, SpellsStatus, SpellsProto, NoSpace, IsSkipped, SpellsLine}
+use Rattle.event_lines.specs.ResponseGrammar.{Field, is_field_byte, is_word_byte, SpellsField, SpellFields, tabbed, most_fields}
+use Rattle.field_text.specs.Runs.{AllIn, BeginsIn}
 use Rattle.event_lines.specs.declared.event.Event.{Event}
 use Rattle.event_lines.specs.declared.refusal.LineRefusal.{LineRefusal}
 use Rattle.event_lines.specs.declared.refusal.LineRefusal.TheVariants.{BadMoment, UnknownKind, BadField, ExtraField}
@@ -31,22 +33,30 @@ HasForm OfAddr word = (addr : Addr) × SpellsAddr word addr
 HasForm OfOrigin word = (origin : Origin) × SpellsOrigin word origin
 HasForm OfNames word = (names : List CertName) × SpellsNames word names
 
--- the kinds, each with the forms of its fields in order
+-- words of these forms in order, and behind them nothing, or a status and the fields of a response
+pub data Forms : Type 0 where
+  NoMore : Forms
+  Then : (form : Form) → (more : Forms) → Forms
+  StatusAndFields : Forms
+
+-- the kinds, each with the forms of its fields
 pub record Kind : Type 0 where
   pub name : List ℕ
-  pub forms : List Form
+  pub forms : Forms
 
 abbrev pub kinds : List Kind
 kinds =
-    record { name = codes "request"; forms = OfNumber most_short ∷ OfOrigin ∷ [] }
-    ∷ record { name = codes "opened"; forms = OfNumber most_long ∷ OfProto ∷ OfAddr ∷ OfPort ∷ OfNames ∷ [] }
-    ∷ record { name = codes "failed"; forms = OfNumber most_long ∷ [] }
-    ∷ record { name = codes "closed"; forms = OfNumber most_long ∷ [] }
-    ∷ record { name = codes "tick"; forms = [] }
+    record { name = codes "request"; forms = Then (OfNumber most_short) (Then OfOrigin NoMore) }
+    ∷ record { name = codes "opened"; forms = Then (OfNumber most_long) (Then OfProto (Then OfAddr (Then OfPort (Then OfNames NoMore)))) }
+    ∷ record { name = codes "failed"; forms = Then (OfNumber most_long) NoMore }
+    ∷ record { name = codes "closed"; forms = Then (OfNumber most_long) NoMore }
+    ∷ record { name = codes "response"; forms = Then (OfNumber most_short) StatusAndFields }
+    ∷ record { name = codes "network"; forms = NoMore }
+    ∷ record { name = codes "tick"; forms = NoMore }
     ∷ []
 
 -- the first kind of this name has fields of these forms
-abbrev pub IsAmong : List Kind → List ℕ → List Form → Type 0
+abbrev pub IsAmong : List Kind → List ℕ → Forms → Type 0
 IsAmong [] name forms = ⊥
 IsAmong (kind ∷ more) name forms = ((name ≡ kind.name) × (forms ≡ kind.forms)) ⊎ ((name ≢ kind.name) × IsAmong more name forms)
 
@@ -101,11 +111,62 @@ pub record IsBehind (form : Form) (begin : ℕ) (text : List ℕ) (Holds : ℕ �
   pub good : HasForm form word
   pub later : Holds (begin + 1 + length word) behind
 
+-- a space, and the word of a status behind it, up to a space, a tab or the end
+pub record IsStatusWord (text word behind : List ℕ) : Type 0 where
+  pub spelled : text ≡ 32 ∷ (word ++ behind)
+  pub apart : AllIn is_word_byte word
+  pub end : ¬ (BeginsIn is_word_byte behind)
+
+-- it isn't a status: the place is its first byte
+pub record IsBadStatus (begin : ℕ) (text : List ℕ) (place : ℕ) (reason : LineRefusal) : Type 0 where
+  pub word : List ℕ
+  pub behind : List ℕ
+  pub next : IsStatusWord text word behind
+  pub bad : (status : ℕ) → ¬ (SpellsStatus word status)
+  pub at : place ≡ begin + 1
+  pub why : reason ≡ BadField
+
+-- a space follows the status: the place is the byte behind it
+pub record IsExtraBehindStatus (begin : ℕ) (text : List ℕ) (place : ℕ) (reason : LineRefusal) : Type 0 where
+  pub word : List ℕ
+  pub behind : List ℕ
+  pub status : ℕ
+  pub spelled : text ≡ 32 ∷ (word ++ 32 ∷ behind)
+  pub of_status : SpellsStatus word status
+  pub at : place ≡ begin + 1 + length word + 1
+  pub why : reason ≡ ExtraField
+
+-- the first field of a response that isn't one, or the 65th: the place is its first byte
+pub record IsBadResponseField (begin : ℕ) (text : List ℕ) (place : ℕ) (reason : LineRefusal) : Type 0 where
+  pub word : List ℕ
+  pub status : ℕ
+  pub good : List (List ℕ)
+  pub fields : List Field
+  pub bad : List ℕ
+  pub behind : List ℕ
+  pub spelled : text ≡ 32 ∷ (word ++ (tabbed good ++ 9 ∷ (bad ++ behind)))
+  pub of_status : SpellsStatus word status
+  pub of_good : SpellFields good fields
+  pub within : length good ≤ most_fields
+  pub apart : AllIn is_field_byte bad
+  pub end : ¬ (BeginsIn is_field_byte behind)
+  pub wrong : ((field : Field) → ¬ (SpellsField bad field)) ⊎ (length good ≡ most_fields)
+  pub at : place ≡ begin + 1 + length word + length (tabbed good) + 1
+  pub why : reason ≡ BadField
+
+-- a status and the fields of a response are to stand in a text that begins at this place
+abbrev pub StatusRefusedAt : ℕ → List ℕ → ℕ → LineRefusal → Type 0
+StatusRefusedAt begin text place reason =
+    IsMissing begin text place reason
+    ⊎ (IsBadStatus begin text place reason
+    ⊎ (IsExtraBehindStatus begin text place reason ⊎ IsBadResponseField begin text place reason))
+
 -- fields of these forms are to stand in a text that begins at this place, and from left to right this is the first
 -- that is wrong
-abbrev pub FieldsRefusedAt : List Form → ℕ → List ℕ → ℕ → LineRefusal → Type 0
-FieldsRefusedAt [] begin text place reason = IsExtra begin text place reason
-FieldsRefusedAt (form ∷ forms) begin text place reason =
+abbrev pub FieldsRefusedAt : Forms → ℕ → List ℕ → ℕ → LineRefusal → Type 0
+FieldsRefusedAt NoMore begin text place reason = IsExtra begin text place reason
+FieldsRefusedAt StatusAndFields begin text place reason = StatusRefusedAt begin text place reason
+FieldsRefusedAt (Then form forms) begin text place reason =
     IsMissing begin text place reason
     ⊎ (IsBad form begin text place reason
     ⊎ IsBehind form begin text (λ next rest. FieldsRefusedAt forms next rest place reason))
@@ -144,7 +205,7 @@ pub record IsWrongField (line : List ℕ) (place : ℕ) (reason : LineRefusal) :
   pub text : List ℕ
   pub name : List ℕ
   pub behind : List ℕ
-  pub forms : List Form
+  pub forms : Forms
   pub now : ℕ
   pub spelled : line ≡ moment ++ text
   pub of_moment : SpellsNumber most_short moment now

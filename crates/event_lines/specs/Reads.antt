@@ -19,6 +19,12 @@ MayRead (Ok value) rest reading = reading ≡ Ok (value, rest)
 MayRead (Err refused.NoMemory) rest reading = Unit {0}
 MayRead (Err (refused.At place reason)) rest reading = reading ≡ Err (record { place = place; reason = reason })
 
+-- the same, of a reading that leaves nothing
+abbrev pub MayGive : {A : Type 0} → Result A (Refused LineRefusal) → Result A (At LineRefusal) → Type 0
+MayGive (Ok value) reading = reading ≡ Ok value
+MayGive (Err refused.NoMemory) reading = Unit {0}
+MayGive (Err (refused.At place reason)) reading = reading ≡ Err (record { place = place; reason = reason })
+
 -- unless memory wasn't found, the result is the reading's: its moment and its event, or its refusal at the same place
 abbrev pub IsRead : Result (Moment × Event) (Refused LineRefusal) → Result (ℕ × Event) (At LineRefusal) → Type 0
 IsRead (Ok read) reading = reading ≡ Ok (read.0.0, read.1)

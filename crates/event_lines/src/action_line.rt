@@ -1,19 +1,23 @@
 ghost use Rattle.std.specs.Prelude.{◌≡◌, ◌++◌, IfOk, OnOk};
-ghost use Rattle.event_lines.specs.ActionTexts.{action_text, stream_text, alt_used_text, authority_text, open_text, send_text};
+ghost use Rattle.event_lines.specs.ActionTexts.{action_text, stream_text, alt_used_text, authority_text, open_text, send_text, alternatives_text, ignored_field_text};
 
 use crate::pieces::{append, append_number};
-use crate::protocols::{protocols, protos_text, route_text};
+use crate::protocols::protos_text;
+use crate::route_words::{route_host, route_port, route_text};
 use alt_base::{Bytes, ListOf, NoMemory};
+use altsvc_grammar::{AltSvc, write};
 use origin_values::{Host, Origin};
-use route_events::{Action, Route};
+use route_events::{Action, Route, protocols_of};
 use std::alloc::Global;
 
 /// The port that isn't written where an alternative is told to the server (RFC 7838 5): that of https.
 const PLAIN_PORT: u16 = 443;
 
-/// The line of an action, without a newline: `open A ORIGIN KIND PROTOS HOST PORT` with the protocols in the order h2,
-/// h3, http/1.1; `send Q on C`, with ` stream S` on HTTP/2 and ` alt-used X` where an alternative is told to the server
-/// (RFC 7838 5); `refuse Q`; `lost Q`. Numbers are decimal.
+/// The line of an action, without a newline: `open A ORIGIN KIND PROTOS HOST PORT`, of kind `direct` or `alt`, with the
+/// protocols in the order h2, h3, http/1.1 and the host and port that the route goes to; `send Q on C`, with ` stream S`
+/// on HTTP/2 and ` alt-used X` where an alternative is told to the server (RFC 7838 5); `refuse Q`; `lost Q`;
+/// `alternatives ORIGIN VALUE` with the canonical text of a value of Alt-Svc (RFC 7838 3); `field Q R PLACE`. Numbers are
+/// decimal.
 pub fn write_action(alloc: Global, action: &Action) -> Result<Bytes, NoMemory>
     ensures { IfOk result (λ line. line ≡ action_text action.now) }
 {
@@ -23,7 +27,7 @@ pub fn write_action(alloc: Global, action: &Action) -> Result<Bytes, NoMemory>
             attempt,
             origin,
             route,
-        } => append_open(&mut line, alloc, *attempt, origin, *route)?,
+        } => append_open(&mut line, alloc, *attempt, origin, route)?,
         Action::SendOn {
             request,
             conn,
@@ -42,6 +46,14 @@ pub fn write_action(alloc: Global, action: &Action) -> Result<Bytes, NoMemory>
             append(&mut line, b"lost ")?;
             append_number(&mut line, alloc, u64::from(*request))?;
         }
+        Action::Alternatives { origin, value } => {
+            append_alternatives(&mut line, alloc, origin, value)?
+        }
+        Action::Field {
+            request,
+            reason,
+            place,
+        } => append_field(&mut line, alloc, *request, *reason, *place)?,
     }
     Ok(ListOf::from_vec(line))
 }
@@ -51,9 +63,9 @@ fn append_open(
     alloc: Global,
     attempt: u64,
     origin: &Origin,
-    route: Route,
+    route: &Route,
 ) -> Result<(), NoMemory>
-    ensures { OnOk result (line.new.items ≡ line.old.items ++ open_text attempt origin.now route) }
+    ensures { OnOk result (line.new.items ≡ line.old.items ++ open_text attempt origin.now route.now) }
 {
     append(line, b"open ")?;
     append_number(line, alloc, attempt)?;
@@ -62,11 +74,11 @@ fn append_open(
     append(line, b" ")?;
     append(line, route_text(route))?;
     append(line, b" ")?;
-    append(line, protos_text(protocols(origin.scheme, route)))?;
+    append(line, protos_text(protocols_of(origin.scheme, route)))?;
     append(line, b" ")?;
-    append(line, origin.host.write(alloc)?.as_slice())?;
+    append(line, route_host(route, origin).write(alloc)?.as_slice())?;
     append(line, b" ")?;
-    append_number(line, alloc, u64::from(origin.port))
+    append_number(line, alloc, u64::from(route_port(route, origin)))
 }
 
 fn append_send(line: &mut Vec<u8>, alloc: Global, request: u32, conn: u64) -> Result<(), NoMemory>
@@ -120,4 +132,35 @@ fn append_authority(
         append_number(line, alloc, u64::from(port))?;
     }
     Ok(())
+}
+
+fn append_alternatives(
+    line: &mut Vec<u8>,
+    alloc: Global,
+    origin: &Origin,
+    value: &AltSvc,
+) -> Result<(), NoMemory>
+    ensures { OnOk result (line.new.items ≡ line.old.items ++ alternatives_text origin.now value.now) }
+{
+    append(line, b"alternatives ")?;
+    append(line, origin.write(alloc)?.as_slice())?;
+    append(line, b" ")?;
+    append(line, write(alloc, value)?.as_slice())
+}
+
+fn append_field(
+    line: &mut Vec<u8>,
+    alloc: Global,
+    request: u32,
+    reason: u8,
+    place: u32,
+) -> Result<(), NoMemory>
+    ensures { OnOk result (line.new.items ≡ line.old.items ++ ignored_field_text request reason place) }
+{
+    append(line, b"field ")?;
+    append_number(line, alloc, u64::from(request))?;
+    append(line, b" ")?;
+    append_number(line, alloc, u64::from(reason))?;
+    append(line, b" ")?;
+    append_number(line, alloc, u64::from(place))
 }

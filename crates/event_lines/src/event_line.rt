@@ -1,5 +1,5 @@
 ghost use Rattle.std.specs.Prelude.{◌≡◌, ◌++◌, IfOk, OnOk};
-ghost use Rattle.event_lines.specs.EventTexts.{proto_text, opened_text, fact_text, event_text};
+ghost use Rattle.event_lines.specs.EventTexts.{proto_text, opened_text, age_text, altsvc_text, response_text, fact_text, event_text};
 
 use crate::Event;
 use crate::pieces::{append, append_number};
@@ -51,6 +51,13 @@ fn append_fact(line: &mut Vec<u8>, alloc: Global, fact: &Fact) -> Result<(), NoM
             append(line, b"closed ")?;
             append_number(line, alloc, *conn)
         }
+        Fact::Response {
+            request,
+            status,
+            age,
+            altsvc,
+        } => append_response(line, alloc, *request, *status, *age, altsvc),
+        Fact::Network => append(line, b"network"),
         Fact::Tick => append(line, b"tick"),
     }
 }
@@ -77,6 +84,47 @@ fn append_opened(
     append_number(line, alloc, u64::from(port))?;
     append(line, b" ")?;
     append(line, write_names(alloc, names)?.as_slice())
+}
+
+fn append_response(
+    line: &mut Vec<u8>,
+    alloc: Global,
+    request: u32,
+    status: u16,
+    age: u32,
+    altsvc: &Option<Bytes>,
+) -> Result<(), NoMemory>
+    ensures { OnOk result (line.new.items
+        ≡ line.old.items ++ response_text request status age altsvc.now) }
+{
+    append(line, b"response ")?;
+    append_number(line, alloc, u64::from(request))?;
+    append(line, b" ")?;
+    append_number(line, alloc, u64::from(status))?;
+    append_age(line, alloc, age)?;
+    append_altsvc(line, altsvc)
+}
+
+fn append_age(line: &mut Vec<u8>, alloc: Global, age: u32) -> Result<(), NoMemory>
+    ensures { OnOk result (line.new.items ≡ line.old.items ++ age_text age) }
+{
+    if age != 0 {
+        append(line, b"\tage: ")?;
+        append_number(line, alloc, u64::from(age))?;
+    }
+    Ok(())
+}
+
+fn append_altsvc(line: &mut Vec<u8>, altsvc: &Option<Bytes>) -> Result<(), NoMemory>
+    ensures { OnOk result (line.new.items ≡ line.old.items ++ altsvc_text altsvc.now) }
+{
+    match altsvc {
+        None => Ok(()),
+        Some(value) => {
+            append(line, b"\talt-svc: ")?;
+            append(line, value.as_slice())
+        }
+    }
 }
 
 // The name of a protocol.

@@ -1,5 +1,5 @@
 ghost use Rattle.std.specs.Prelude.{◌≡◌, ◌<◌, ◌^◌, length, IfOk};
-ghost use Rattle.event_lines.specs.Fields.{port_of, proto_of, origin_of, names_of};
+ghost use Rattle.event_lines.specs.Fields.{port_of, status_of, proto_of, origin_of, names_of};
 
 use crate::number::number_of;
 use alt_base::{NoMemory, Refused};
@@ -9,6 +9,12 @@ use std::alloc::Global;
 
 /// The greatest port.
 const MOST_PORT: u64 = 65535;
+/// The least status of a final response (RFC 9110 15).
+const LEAST_STATUS: u64 = 200;
+/// The greatest status.
+const MOST_STATUS: u64 = 599;
+/// The status of a misdirected request (RFC 9110 15.5.20).
+const MISDIRECTED: u64 = 421;
 
 // A port, from 1 to 65535.
 pub(crate) fn port_of(text: &[u8]) -> Option<u16>
@@ -16,6 +22,19 @@ pub(crate) fn port_of(text: &[u8]) -> Option<u16>
 {
     match number_of(text, MOST_PORT) {
         Some(number) if number > 0 => Some(number as u16),
+        _ => None,
+    }
+}
+
+// A status of a final response, of three digits. A 421 isn't read yet.
+pub(crate) fn status_of(text: &[u8]) -> Option<u16>
+    ensures { result ≡ status_of text.now }
+{
+    if text.len() != 3 {
+        return None;
+    }
+    match number_of(text, MOST_STATUS) {
+        Some(number) if number >= LEAST_STATUS && number != MISDIRECTED => Some(number as u16),
         _ => None,
     }
 }

@@ -1,4 +1,4 @@
-ghost use Rattle.event_lines.specs.LineReading.{request_fields, opened_fields, failed_fields, closed_fields, kind_reading};
+ghost use Rattle.event_lines.specs.LineReading.{request_fields, opened_fields, failed_fields, closed_fields, response_fields, kind_reading};
 ghost use Rattle.event_lines.specs.Reads.{Reads, MayRead};
 
 use crate::line_reader::LineReader;
@@ -24,6 +24,10 @@ pub(crate) fn read_kind(
         Ok(read_failed(reader)?)
     } else if kind.text == b"closed".as_slice() {
         Ok(read_closed(reader)?)
+    } else if kind.text == b"response".as_slice() {
+        read_response(alloc, reader)
+    } else if kind.text == b"network".as_slice() {
+        Ok(Event::Client(Fact::Network))
     } else if kind.text == b"tick".as_slice() {
         Ok(Event::Client(Fact::Tick))
     } else {
@@ -75,4 +79,19 @@ fn read_closed(reader: &mut LineReader) -> Result<Event, At<LineRefusal>>
 {
     let conn = reader.long_number()?;
     Ok(Event::Client(Fact::Closed { conn }))
+}
+
+// `response Q STATUS`, and the fields of the response
+fn read_response(alloc: Global, reader: &mut LineReader) -> Result<Event, Refused<LineRefusal>>
+    ensures { MayRead result reader.new (response_fields reader.old) }
+{
+    let request = reader.short_number()?;
+    let status = reader.status()?;
+    let reply = reader.reply(alloc)?;
+    Ok(Event::Client(Fact::Response {
+        request,
+        status,
+        age: reply.age.unwrap_or(0),
+        altsvc: reply.altsvc,
+    }))
 }

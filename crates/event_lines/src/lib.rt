@@ -14,6 +14,9 @@ mod pieces;
 mod protocols;
 mod reading;
 mod refusal;
+mod response;
+mod response_field;
+mod route_words;
 #[cfg(test)]
 mod tests;
 

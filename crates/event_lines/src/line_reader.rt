@@ -3,12 +3,16 @@ ghost use Rattle.event_lines.specs.Parts.{before_space, first_word, behind_word,
 ghost use Rattle.event_lines.specs.Fields.{most_short, most_long, number_of, port_of, proto_of, origin_of, names_of};
 ghost use Rattle.event_lines.specs.LineReading.{moment_reading, end_reading};
 ghost use Rattle.event_lines.specs.Reads.{Reads, MayRead};
+ghost use Rattle.event_lines.specs.ResponseGrammar.{is_word_byte};
+ghost use Rattle.event_lines.specs.ResponseReading.{short_word, behind_short_word, next_short_word, status_reading, reply_reading};
+ghost use Rattle.field_text.specs.Runs.{run_of};
 ghost use Rattle.origin_values.specs.HostReading.{read_addr};
 
 use crate::LineRefusal;
-use crate::fields::{names_of, origin_of, port_of, proto_of};
+use crate::fields::{names_of, origin_of, port_of, proto_of, status_of};
 use crate::number::number_of;
 use crate::part::Part;
+use crate::response::{Reply, read_fields};
 use alt_base::{At, Refused};
 use coalescing::CertNames;
 use origin_values::{Addr, Origin, Proto};
@@ -153,6 +157,56 @@ impl<'a> LineReader<'a> {
         }
     }
 
+    // The word in front: what stands before the first space or tab, or the end.
+    fn short_word(&mut self) -> Part<'a>
+        ensures word { result ≡ short_word self.old }
+        ensures behind { self.new ≡ behind_short_word self.old }
+    {
+        let place = self.place;
+        let count = short_word_length(self.rest);
+        let text = &self.rest[..count];
+        self.rest = &self.rest[count..];
+        self.place += count as u32;
+        Part { text, place }
+    }
+
+    // The next word, behind a space, up to a space, a tab or the end.
+    fn next_short_word(&mut self) -> Result<Part<'a>, At<LineRefusal>>
+        ensures { Reads result self.new (next_short_word self.old) }
+    {
+        match self.rest {
+            [] => Err(bad_field(self.place)),
+            [_, text @ ..] => {
+                self.rest = text;
+                self.place += 1;
+                Ok(self.short_word())
+            }
+        }
+    }
+
+    // The status of a response.
+    pub(crate) fn status(&mut self) -> Result<u16, At<LineRefusal>>
+        ensures { Reads result self.new (status_reading self.old) }
+    {
+        let word = self.next_short_word()?;
+        status_of(word.text).ok_or(bad_field(word.place))
+    }
+
+    // What the fields of a response say, if what is left begins with a tab.
+    pub(crate) fn reply(&mut self, alloc: Global) -> Result<Reply, Refused<LineRefusal>>
+        ensures { MayRead result self.new (reply_reading self.old) }
+    {
+        match self.rest {
+            [b'\t', text @ ..] => {
+                let place = self.place + 1;
+                self.rest = &text[text.len()..];
+                self.place += 1 + text.len() as u32;
+                read_fields(alloc, text, place)
+            }
+            _ => Ok(Reply::empty()),
+        }
+    }
+
     // Nothing is left.
     pub(crate) fn end(&self) -> Result<(), At<LineRefusal>>
         ensures { result ≡ end_reading self.now }
@@ -168,7 +222,7 @@ impl<'a> LineReader<'a> {
     }
 }
 
-fn bad_field(place: u32) -> At<LineRefusal>
+pub(crate) fn bad_field(place: u32) -> At<LineRefusal>
     ensures { result ≡ record { place = place; reason = LineRefusal.BadField } }
 {
     At {
@@ -184,6 +238,19 @@ fn word_length(text: &[u8]) -> usize
 {
     for (i, b) in text.iter().enumerate() {
         if *b == b' ' {
+            return i;
+        }
+    }
+    text.len()
+}
+
+// How many bytes stand before the first space or tab, or the end.
+fn short_word_length(text: &[u8]) -> usize
+    ensures value { result ≡ length (run_of is_word_byte text.now) }
+    ensures within { result ≤ length text.now }
+{
+    for (i, b) in text.iter().enumerate() {
+        if *b == b' ' || *b == b'\t' {
             return i;
         }
     }

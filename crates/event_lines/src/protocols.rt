@@ -1,36 +1,7 @@
 ghost use Rattle.std.specs.Prelude.{◌≡◌};
-ghost use Rattle.route_events.specs.Authority.{protocols};
-ghost use Rattle.event_lines.specs.ActionTexts.{route_text, protos_text};
+ghost use Rattle.event_lines.specs.ActionTexts.{protos_text};
 
-use origin_values::{Protos, Scheme};
-use route_events::Route;
-
-// The word of a route.
-pub(crate) fn route_text(route: Route) -> &'static [u8]
-    ensures { result.now ≡ route_text route }
-{
-    match route {
-        Route::Direct => b"direct",
-    }
-}
-
-// The protocols that an attempt may end with.
-pub(crate) fn protocols(scheme: Scheme, route: Route) -> Protos
-    ensures { result ≡ protocols scheme route }
-{
-    match (scheme, route) {
-        (Scheme::Http, Route::Direct) => Protos {
-            h2: false,
-            h3: false,
-            http11: true,
-        },
-        (Scheme::Https, Route::Direct) => Protos {
-            h2: true,
-            h3: false,
-            http11: true,
-        },
-    }
-}
+use origin_values::Protos;
 
 // The names of protocols, joined by commas.
 pub(crate) fn protos_text(protos: Protos) -> &'static [u8]

@@ -17,13 +17,19 @@ use std::alloc::Global;
 ///   to an address without brackets and a port, with a certificate of these names, `-` for none;
 /// - `failed A`: attempt A ended without a connection;
 /// - `closed C`: connection C ended;
+/// - `response Q STATUS`: the final response to request Q came, with a status of three digits from 200 to 599, but not 421.
+///   At most 64 of its fields follow, each behind one tab: a name, a colon, and a value of the bytes 20 to 7E and 80 to FF,
+///   whose spaces at both ends are dropped (RFC 9110 5). The seconds of the first Age field (RFC 9111 5.1) and the values
+///   of the Alt-Svc fields (RFC 7838 3), joined by a comma and a space, are kept, and no other field;
+/// - `network`: the network changed;
 /// - `tick`: nothing but that time has come so far.
 ///
 /// A number has no leading zero. Moments and numbers of requests have 32 bits, those of attempts and connections 64.
 ///
 /// Refused, with the fields tried from left to right: `BadMoment` at 0 where what stands before the first space is no
 /// moment; `UnknownKind` at the kind, or at the length where it is missing; `BadField` at the first field that isn't of
-/// its form, or at the length where it is missing; `ExtraField` behind the space that follows the last field.
+/// its form, or at the length where it is missing, and at the 65th field of a response; `ExtraField` behind the space that
+/// follows the last field, or the status of a response.
 pub fn read_line(alloc: Global, line: &[u8]) -> Result<(Moment, Event), Refused<LineRefusal>>
     requires { length line.now ≤ 65536 }
     ensures reading { IsRead result (line_reading line.now) }

@@ -1,6 +1,7 @@
 use crate::*;
-use alt_base::{Bytes, Duplicate, Moment, Refused};
-use origin_values::{Host, Origin};
+use alt_base::{Bytes, Duplicate, ListOf, Moment, Refused};
+use altsvc_grammar::{AltKey, AltSvc};
+use origin_values::{Host, Origin, Scheme};
 use route_events::{Action, Route};
 use std::alloc::Global;
 use std::test::Fail;
@@ -27,6 +28,7 @@ fn lines_that_are_read(rt: HostRuntime) -> Result<(), Fail> {
             "4294967295 failed 18446744073709551615",
         ),
         ("10 closed 0", "10 closed 0"),
+        ("10 network", "10 network"),
         (
             "1 request 4294967295 HTTP://[2001:DB8::1]:8080",
             "1 request 4294967295 http://[2001:db8::1]:8080",
@@ -59,6 +61,110 @@ fn lines_that_are_read(rt: HostRuntime) -> Result<(), Fail> {
             assert_eq!(rt; got.as_slice(), want.as_bytes());
         }
     }
+    Ok(())
+}
+
+#[test]
+fn responses_that_are_read(rt: HostRuntime) -> Result<(), Fail> {
+    let table = [
+        ("7 response 3 200", "7 response 3 200"),
+        (
+            "7 response 3 599\tdate: Tue, 1 Dec\tvia:",
+            "7 response 3 599",
+        ),
+        (
+            "0 response 1 204\tAGE:  12 \tAlt-Svc: h3=\":443\"; ma=60",
+            "0 response 1 204\tage: 12\talt-svc: h3=\":443\"; ma=60",
+        ),
+        (
+            "0 response 1 200\tage: 5\tAge: 7",
+            "0 response 1 200\tage: 5",
+        ),
+        ("0 response 1 200\tage: x\tage: 7", "0 response 1 200"),
+        ("0 response 1 200\tage:\tage: 7", "0 response 1 200"),
+        (
+            "0 response 1 200\taGe:99999999999999999999",
+            "0 response 1 200\tage: 2147483648",
+        ),
+        (
+            "0 response 1 200\talt-svc: a\tage: 1\tALT-SVC: b\tx: c\talt-svc:clear",
+            "0 response 1 200\tage: 1\talt-svc: a, b, clear",
+        ),
+        (
+            "0 response 1 200\talt-svc:   ",
+            "0 response 1 200\talt-svc: ",
+        ),
+        (
+            "0 response 1 200\talt-svc:\talt-svc: ",
+            "0 response 1 200\talt-svc: , ",
+        ),
+    ];
+    for (line, want) in table {
+        let got = written(rt.alloc(), line);
+        assert!(rt; got.is_ok());
+        if let Ok(got) = got {
+            assert_eq!(rt; got.as_slice(), want.as_bytes());
+        }
+    }
+    let past_ascii = read(rt.alloc(), b"0 response 1 200\talt-svc: \x80\xff");
+    assert!(rt; past_ascii.is_ok());
+    Ok(())
+}
+
+#[test]
+fn responses_that_are_refused(rt: HostRuntime) {
+    let table = [
+        ("0 Response 1 200", 2, LineRefusal::UnknownKind),
+        ("0 response", 10, LineRefusal::BadField),
+        ("0 response ", 11, LineRefusal::BadField),
+        ("0 response x 200", 11, LineRefusal::BadField),
+        ("0 response 1\t200", 11, LineRefusal::BadField),
+        ("0 response 1", 12, LineRefusal::BadField),
+        ("0 response 1 ", 13, LineRefusal::BadField),
+        ("0 response 1 99", 13, LineRefusal::BadField),
+        ("0 response 1 199", 13, LineRefusal::BadField),
+        ("0 response 1 600", 13, LineRefusal::BadField),
+        ("0 response 1 0200", 13, LineRefusal::BadField),
+        ("0 response 1 20x", 13, LineRefusal::BadField),
+        ("0 response 1 421", 13, LineRefusal::BadField),
+        ("0 response 1 200 ", 17, LineRefusal::ExtraField),
+        ("0 response 1 200 \tage: 1", 17, LineRefusal::ExtraField),
+        ("0 response 1 200\t", 17, LineRefusal::BadField),
+        ("0 response 1 200\tage: 1\t", 24, LineRefusal::BadField),
+        ("0 response 1 200\t\tage: 1", 17, LineRefusal::BadField),
+        ("0 response 1 200\tage", 17, LineRefusal::BadField),
+        ("0 response 1 200\t: 1", 17, LineRefusal::BadField),
+        ("0 response 1 200\t age: 1", 17, LineRefusal::BadField),
+        ("0 response 1 200\tage : 1", 17, LineRefusal::BadField),
+        ("0 response 1 200\tx: a\u{1}b", 17, LineRefusal::BadField),
+        (
+            "0 response 1 200\tok: 1\tx: \u{7f}\ty",
+            23,
+            LineRefusal::BadField,
+        ),
+    ];
+    for (line, place, reason) in table {
+        let got = read(rt.alloc(), line.as_bytes());
+        assert!(rt; got.err() == Some(Refused::At { place, reason }));
+    }
+}
+
+#[test]
+fn the_65th_field_is_refused(rt: HostRuntime) -> Result<(), Fail> {
+    let mut line = Vec::from_slice(rt.alloc(), b"0 response 1 200")?;
+    for _ in 0..64 {
+        line.extend_from_slice(b"\ta:")?;
+    }
+    assert!(rt; read(rt.alloc(), line.as_slice()).is_ok());
+    line.extend_from_slice(b"\tb:")?;
+    let got = read(rt.alloc(), line.as_slice());
+    assert!(rt;
+        got.err()
+            == Some(Refused::At {
+                place: 209,
+                reason: LineRefusal::BadField
+            })
+    );
     Ok(())
 }
 
@@ -97,6 +203,8 @@ fn lines_that_are_refused(rt: HostRuntime) {
         ("0 tick ", 7, LineRefusal::ExtraField),
         ("0 tick now", 7, LineRefusal::ExtraField),
         ("0 failed 1  ", 11, LineRefusal::ExtraField),
+        ("0 network ", 10, LineRefusal::ExtraField),
+        ("0 network now", 10, LineRefusal::ExtraField),
     ];
     for (line, place, reason) in table {
         let got = read(rt.alloc(), line.as_bytes());
@@ -155,5 +263,68 @@ fn lines_of_actions(rt: HostRuntime) -> Result<(), Fail> {
             );
         }
     }
+    Ok(())
+}
+
+// The line of an attempt for an origin of https by an alternative.
+fn opened(
+    alloc: Global,
+    proto: &[u8],
+    host: Option<Host>,
+    port: u16,
+) -> Result<Bytes, Refused<LineRefusal>> {
+    let proto = ListOf::from_vec(Vec::from_slice(alloc, proto)?);
+    let origin = Origin {
+        scheme: Scheme::Https,
+        host: Host::V4([192, 0, 2, 1]),
+        port: 443,
+    };
+    let action = Action::OpenTo {
+        attempt: 7,
+        origin,
+        route: Route::Alt(AltKey { proto, host, port }),
+    };
+    Ok(write_action(alloc, &action)?)
+}
+
+#[test]
+fn lines_of_alternatives(rt: HostRuntime) -> Result<(), Fail> {
+    let other = Some(Host::V4([192, 0, 2, 2]));
+    let by_host = opened(rt.alloc(), b"h3", other, 8443)?;
+    assert_eq!(rt;
+        by_host.as_slice(),
+        b"open 7 https://192.0.2.1 alt h3 192.0.2.2 8443".as_slice()
+    );
+    let own_host = opened(rt.alloc(), b"http/1.1", None, 444)?;
+    assert_eq!(rt;
+        own_host.as_slice(),
+        b"open 7 https://192.0.2.1 alt http/1.1 192.0.2.1 444".as_slice()
+    );
+    let other_proto = opened(rt.alloc(), b"h1", None, 443)?;
+    assert_eq!(rt;
+        other_proto.as_slice(),
+        b"open 7 https://192.0.2.1 alt  192.0.2.1 443".as_slice()
+    );
+    let cleared = Action::Alternatives {
+        origin: Origin {
+            scheme: Scheme::Http,
+            host: Host::V4([192, 0, 2, 1]),
+            port: 8080,
+        },
+        value: AltSvc::Clear,
+    };
+    assert_eq!(rt;
+        write_action(rt.alloc(), &cleared)?.as_slice(),
+        b"alternatives http://192.0.2.1:8080 clear".as_slice()
+    );
+    let ignored = Action::Field {
+        request: 4,
+        reason: 13,
+        place: 0,
+    };
+    assert_eq!(rt;
+        write_action(rt.alloc(), &ignored)?.as_slice(),
+        b"field 4 13 0".as_slice()
+    );
     Ok(())
 }

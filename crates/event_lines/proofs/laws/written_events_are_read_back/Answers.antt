@@ -8,4 +8,4 @@ pub returns-clause-back : goal.returns-clause-back
 returns-clause-back c = λ now event h. line_back now event h
 
 pub returns-clause-valid : goal.returns-clause-valid
-returns-clause-valid c = λ line now event h. line_valid line now event h
+returns-clause-valid c = λ line now event h end. line_valid line now event h end
