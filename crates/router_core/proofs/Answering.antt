@@ -1,5 +1,5 @@
 -- A response, for what a router keeps, is the response for the journal.
-use Rattle.std.proofs.Common.{◌≡◌, ℕ, Bool, true, false, cond, not, ◌&&◌, ◌||◌, nat_eq, List, [], ◌∷◌, ◌++◌, map, filter, Option, Some, None, is_some, Result, Ok, Err, refl, ap, sym, ◌∙◌, subst, true≢false}
+use Rattle.std.proofs.Common.{◌≡◌, ℕ, Bool, true, false, cond, not, ◌&&◌, ◌||◌, nat_eq, List, [], ◌∷◌, ◌++◌, map, Option, Some, None, is_some, Result, Ok, Err, refl, ap, sym, ◌∙◌, true≢false}
 use Rattle.std.specs.Option.{option_map_or}
 use Rattle.std.specs.List.{list_any}
 use Rattle.alt_base.specs.declared.refusal.At.{At}
@@ -12,16 +12,15 @@ use Rattle.route_events.specs.declared.fact.Fact.TheVariants.{Response}
 use Rattle.route_events.specs.declared.action.Action.{Action}
 use Rattle.route_events.specs.declared.action.Action.TheVariants.{Alternatives, Field}
 use Rattle.route_events.specs.declared.request.Request.{Request}
-use Rattle.route_events.specs.declared.connection.Connection.{Connection}
 use Rattle.route_events.specs.Journal.{Happened, Taken, Journal}
-use Rattle.route_events.specs.Requests.{Standing, OutOn, requests, request_of, standing, waits, is_out, waiting}
-use Rattle.route_events.specs.Connections.{connections, is_open, open_connections, outstanding, send_count, without}
+use Rattle.route_events.specs.Requests.{Standing, OutOn, request_of, standing, waits, is_out, waiting}
+use Rattle.route_events.specs.Connections.{connections, is_open, open_connections, outstanding, send_count}
 use Rattle.route_events.specs.Alternatives.{alternatives_of}
 use Rattle.route_events.specs.Authority.{is_https, is_success, gives, is_upheld, is_authoritative}
 use Rattle.route_events.specs.Advertisements.{is_one_of, value_of_reading, value_taken, advertisement, field_effects, answer_effects}
 use Rattle.route_events.specs.Advertisements as journal
 use Rattle.route_events.specs.Step.{with_actions}
-use Rattle.route_events.proofs.Lists.{IsIn, in_filter}
+use Rattle.route_events.proofs.Lists.{in_filter}
 use Rattle.router_core.specs.declared.open_connection.OpenConnection.{OpenConnection}
 use Rattle.router_core.specs.declared.tables.Tables.{Tables}
 use Rattle.router_core.specs.declared.waiting.Waiting.{Waiting}
@@ -30,10 +29,10 @@ use Rattle.router_core.specs.OpenConnections.{kept_of, authorises, without_reque
 use Rattle.router_core.specs.WaitingRequests.{AreTried}
 use Rattle.router_core.specs.Tables.{Hold}
 use Rattle.router_core.specs.SentRequests.{request_among, without_all, AreSent}
-use Rattle.router_core.specs.StepStates.{is_answered_by_authority, advertised, field_done, rebound_by, answered_so, answered}
+use Rattle.router_core.specs.StepStates.{is_answered_by_authority, field_done, answered_so}
 use Rattle.router_core.specs.StandsFor.{requests_of}
 use Rattle.router_core.proofs.Listing.{map_same_in, map_twice, any_map, any_same_in}
-use Rattle.router_core.proofs.Applying.{tried_with, newest_with}
+use Rattle.router_core.proofs.Applying.{tried_with}
 use Rattle.router_core.proofs.Choosing.{auth_of}
 use Rattle.router_core.proofs.SettlingSo.{Keeps}
 use Rattle.router_core.proofs.Effects.{waiting_over, sent_over}

@@ -1,7 +1,6 @@
 -- How far settling raises the counts that a router keeps.
-use Rattle.std.proofs.Common.{◌≡◌, ℕ, suc, ◌+◌, ◌<◌, ◌≤◌, Bool, true, false, cond, nat_eq, List, [], ◌∷◌, ◌++◌, map, length, Option, Some, None, find, refl, ap, arith, filter, not, nat_lt, is_some, true≢false}
+use Rattle.std.proofs.Common.{◌≡◌, ℕ, suc, ◌+◌, ◌<◌, ◌≤◌, Bool, true, false, cond, nat_eq, List, [], ◌∷◌, ◌++◌, map, length, Option, Some, None, refl, ap, arith, filter, not, nat_lt, is_some, true≢false}
 use Rattle.std.specs.Prelude.{max}
-use Rattle.std.specs.List.{list_any}
 use Rattle.std.proofs.lemmas.List.{length-append}
 use Rattle.coalescing.specs.declared.cert_name.CertName.{CertName}
 use Rattle.origin_values.specs.declared.proto.Proto.{Proto}

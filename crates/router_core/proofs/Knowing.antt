@@ -1,7 +1,6 @@
 -- What the journal says of alternatives and failures, and what a router sees of it at the moment of a step.
 use Rattle.std.proofs.Common.{◌≡◌, ℕ, Bool, true, false, cond, List, [], ◌∷◌, Option, Some, None, refl, ap, sym, ◌∙◌}
 use Rattle.origin_values.specs.declared.origin.Origin.{Origin}
-use Rattle.route_events.specs.declared.action.Action.{Action}
 use Rattle.route_events.specs.declared.route.Route.{Route}
 use Rattle.route_events.specs.declared.request.Request.{Request}
 use Rattle.route_events.specs.declared.connection.Connection.{Connection}

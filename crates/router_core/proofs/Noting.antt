@@ -1,17 +1,13 @@
 -- What a step notes of failures and alternatives is what the journal says from then on.
-use Rattle.std.proofs.Common.{◌≡◌, ℕ, ◌+◌, ◌-◌, ◌≤◌, Bool, true, false, cond, not, ◌&&◌, nat_lt, List, [], ◌∷◌, ◌++◌, map, filter, Option, Some, None, refl, ap, sym, ◌∙◌, arith, min}
-use Rattle.std.specs.Option.{option_map, option_map_or}
+use Rattle.std.proofs.Common.{◌≡◌, ℕ, ◌+◌, Bool, true, false, cond, ◌&&◌, List, [], ◌∷◌, map, filter, Option, Some, None, refl, ap, sym, ◌∙◌, arith, min}
 use Rattle.coalescing.specs.declared.cert_name.CertName.{CertName}
 use Rattle.origin_values.specs.Equality.{origin_eq}
 use Rattle.origin_values.specs.declared.address.Addr.{Addr}
 use Rattle.origin_values.specs.declared.origin.Origin.{Origin}
 use Rattle.origin_values.specs.declared.proto.Proto.{Proto}
 use Rattle.altsvc_grammar.specs.declared.alt.Alt.{Alt}
-use Rattle.altsvc_grammar.specs.declared.alt_svc.AltSvc.{AltSvc}
-use Rattle.network_cache.specs.declared.cache.Cache.{Cache}
 use Rattle.network_cache.specs.declared.kept.Kept.{Kept}
 use Rattle.network_cache.specs.Freshness.{taken_at, is_fresh, persists}
-use Rattle.network_cache.specs.Contents.{kept}
 use Rattle.network_cache.proofs.Origins.{turned, turned_not}
 use Rattle.route_choice.specs.Capped.{capped}
 use Rattle.route_events.specs.declared.fact.Fact.{Fact}
@@ -24,7 +20,6 @@ use Rattle.route_events.specs.Journal.{Happened, Taken, Journal}
 use Rattle.route_events.specs.Attempts.{pending_attempt}
 use Rattle.route_events.specs.Alternatives.{alternatives_of, age_in, live}
 use Rattle.route_events.specs.Alternatives as journal
-use Rattle.route_events.specs.Authority.{route_eq}
 use Rattle.route_events.specs.Backoff.{Failures, no_failures, failed_at, failures, failures_after, is_on}
 use Rattle.route_events.specs.Connections.{outstanding}
 use Rattle.route_events.specs.Step.{with_actions, effects}
@@ -33,7 +28,7 @@ use Rattle.router_core.specs.declared.tables.Tables.{Tables}
 use Rattle.router_core.specs.OpenConnections.{succeeds}
 use Rattle.router_core.specs.StepStates.{attempt_among}
 use Rattle.router_core.specs.Tables.{Hold}
-use Rattle.router_core.specs.Notes.{end_noted, failure_noted, opening_noted, failures_noted, value_noted, kept_after}
+use Rattle.router_core.specs.Notes.{failure_noted, opening_noted, failures_noted, value_noted, kept_after}
 use Rattle.router_core.proofs.Listing.{filter_map}
 use Rattle.router_core.proofs.Answering.{IsAnswer, answer_is}
 

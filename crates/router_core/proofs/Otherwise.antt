@@ -1,5 +1,5 @@
 -- What is done by some routes is what is done by those that a request may take.
-use Rattle.std.proofs.Common.{◌≡◌, ℕ, Bool, true, false, not, ◌&&◌, List, filter, find, refl, ap, sym, ◌∙◌}
+use Rattle.std.proofs.Common.{◌≡◌, ℕ, Bool, true, false, ◌&&◌, List, filter, find, refl, ap, sym, ◌∙◌}
 use Rattle.std.specs.List.{list_any}
 use Rattle.network_cache.specs.declared.cache.Cache.{Cache}
 use Rattle.route_choice.specs.declared.broken.Broken.{Broken}

@@ -1,10 +1,9 @@
 -- Settling what a router keeps is settling the journal.
-use Rattle.std.proofs.Common.{◌≡◌, inl, ℕ, ◌+◌, ◌<◌, Bool, true, false, cond, nat_eq, List, [], ◌∷◌, ◌++◌, length, filter, find, Option, Some, None, is_some, refl, ap, sym, ◌∙◌, subst, append_assoc, append-nil, true≢false}
+use Rattle.std.proofs.Common.{◌≡◌, inl, ℕ, ◌+◌, ◌<◌, Bool, true, false, cond, nat_eq, List, [], ◌∷◌, ◌++◌, length, filter, Option, Some, None, is_some, refl, ap, sym, ◌∙◌, subst, append_assoc, append-nil, true≢false}
 use Rattle.std.specs.Option.{option_map_or}
 use Rattle.origin_values.specs.declared.host.Host.{Host}
 use Rattle.route_events.specs.declared.action.Action.{Action}
-use Rattle.route_events.specs.declared.action.Action.TheVariants.{OpenTo, SendOn}
-use Rattle.route_events.specs.declared.action.Action.TheVariants as action
+use Rattle.route_events.specs.declared.action.Action.TheVariants.{SendOn}
 use Rattle.route_events.specs.declared.route.Route.{Route}
 use Rattle.route_events.specs.declared.request.Request.{Request}
 use Rattle.route_events.specs.Journal.{Taken, Journal, newest_moment}
@@ -28,7 +27,7 @@ use Rattle.router_core.specs.SentRequests.{request_among, AreSent}
 use Rattle.router_core.specs.Choices.{choice, actions_of, after_all, waits_on, is_send}
 use Rattle.router_core.specs.StepStates.{by_choice, settled_by, settle_over}
 use Rattle.router_core.specs.StandsFor.{requests_of}
-use Rattle.router_core.proofs.Listing.{map_append, find_append, or_else_none}
+use Rattle.router_core.proofs.Listing.{map_append, find_append}
 use Rattle.router_core.proofs.Knowing.{Sees, sees_still, said_dispatched}
 use Rattle.router_core.proofs.Choosing.{choice_is}
 use Rattle.router_core.proofs.Applying.{hold_open, hold_send, hold_refuse, tried_with, tried_append, newest_with}

@@ -1,5 +1,5 @@
 -- A router's step is the journal's step.
-use Rattle.std.proofs.Common.{◌≡◌, ℕ, ◌+◌, ◌<◌, ◌≤◌, Bool, true, false, cond, not, nat_eq, nat_lt, nat_le, List, [], ◌∷◌, ◌++◌, map, filter, find, Option, Some, None, is_some, refl, ap, sym, ◌∙◌, subst, arith, true≢false, append_assoc, append-nil, Result, Ok, Err, IfOk}
+use Rattle.std.proofs.Common.{◌≡◌, ℕ, ◌+◌, ◌<◌, ◌≤◌, Bool, true, false, cond, not, nat_eq, nat_lt, nat_le, List, [], ◌∷◌, ◌++◌, map, filter, find, Option, Some, None, is_some, refl, ap, sym, ◌∙◌, subst, arith, true≢false, Result, Ok, Err, IfOk}
 use Rattle.std.specs.Option.{option_map}
 use Rattle.route_events.specs.declared.fact.Fact.{Fact}
 use Rattle.route_events.specs.declared.fact.Fact.TheVariants as fact
@@ -25,7 +25,7 @@ use Rattle.route_events.specs.declared.route.Route.{Route}
 use Rattle.route_events.specs.Alternatives.{age_in, live}
 use Rattle.route_events.specs.Backoff.{failures, is_barred_by}
 use Rattle.route_events.specs.Advertisements.{answer_effects}
-use Rattle.route_events.specs.Step.{IsRun, Stepped, refusal, fact_refusal, with_actions, with_fact, effects, settle, step, newest_actions}
+use Rattle.route_events.specs.Step.{IsRun, Stepped, refusal, fact_refusal, with_actions, with_fact, effects, settle, step}
 use Rattle.route_events.proofs.Lists.{IsIn, AreApart, apart_filter}
 use Rattle.route_events.proofs.Sound.{Sound, not_earlier, sound_fact, above_newest, opened_pending, failed_pending, closed_open, IsStarted, started_of}
 use Rattle.route_events.proofs.Settles.{Settles, effected}

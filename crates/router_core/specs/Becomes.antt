@@ -1,5 +1,5 @@
 -- What a step makes of a router, by what it keeps.
-use Rattle.std.specs.Prelude.{◌≡◌, ℕ, ◌+◌, ◌≤◌, List, [], filter}
+use Rattle.std.specs.Prelude.{◌≡◌, ℕ, ◌+◌, List, [], filter}
 use Rattle.origin_values.specs.declared.origin.Origin.{Origin}
 use Rattle.network_cache.specs.declared.cache.Cache.{Cache}
 use Rattle.network_cache.specs.Contents.{kept}

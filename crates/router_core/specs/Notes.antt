@@ -1,5 +1,5 @@
 -- What a step notes of failures and alternatives, for the steps to come.
-use Rattle.std.specs.Prelude.{ℕ, Bool, true, false, List, [], ◌∷◌, map, filter, Option, Some, None, if◌then◌else◌}
+use Rattle.std.specs.Prelude.{ℕ, Bool, true, false, List, ◌∷◌, map, filter, Option, Some, None, if◌then◌else◌}
 use Rattle.coalescing.specs.declared.cert_name.CertName.{CertName}
 use Rattle.origin_values.specs.Equality.{origin_eq}
 use Rattle.origin_values.specs.declared.origin.Origin.{Origin}
@@ -8,7 +8,7 @@ use Rattle.network_cache.specs.declared.kept.Kept.{Kept}
 use Rattle.network_cache.specs.Freshness.{taken_at, persists}
 use Rattle.route_choice.specs.Capped.{capped}
 use Rattle.route_events.specs.declared.fact.Fact.{Fact}
-use Rattle.route_events.specs.declared.fact.Fact.TheVariants.{Opened, Failed, Response, Network}
+use Rattle.route_events.specs.declared.fact.Fact.TheVariants.{Opened, Failed, Network}
 use Rattle.route_events.specs.declared.action.Action.{Action}
 use Rattle.route_events.specs.declared.action.Action.TheVariants.{Alternatives}
 use Rattle.route_events.specs.declared.route.Route.{Route}

@@ -1,5 +1,5 @@
 -- The requests that are outstanding, as a router keeps them.
-use Rattle.std.specs.Prelude.{◌≡◌, ℕ, Bool, not, nat_eq, List, Option, Some, is_some, find, filter}
+use Rattle.std.specs.Prelude.{◌≡◌, ℕ, not, nat_eq, List, Option, Some, is_some, find, filter}
 use Rattle.route_events.specs.declared.request.Request.{Request}
 use Rattle.route_events.specs.Journal.{Journal}
 use Rattle.route_events.specs.Requests.{standing, is_out, request_of}

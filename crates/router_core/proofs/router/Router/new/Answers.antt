@@ -1,7 +1,4 @@
-use Rattle.std.proofs.Common.{refl, ap, map, [], sym, ◌∙◌, subst}
-use Rattle.network_cache.specs.declared.kept.Kept.{Kept}
-use Rattle.network_cache.specs.Freshness.{is_fresh}
-use Rattle.route_choice.specs.Capped.{capped}
+use Rattle.std.proofs.Common.{refl, ap, [], sym, subst}
 use Rattle.route_events.specs.Step.{Begun}
 use Rattle.router_core.specs.SentRequests.{AreSent}
 use Rattle.router_core.specs.WaitingRequests.{AreTried}
