@@ -1,5 +1,5 @@
--- What tests of numbers say.
-use Rattle.std.proofs.Common.{◌≡◌, ◌≢◌, ℕ, ◌<◌, ◌≤◌, true, false, nat_eq, nat_le, nat_lt, arith}
+-- What tests of numbers say, and parts of numbers.
+use Rattle.std.proofs.Common.{◌≡◌, ◌≢◌, ℕ, suc, ◌+◌, ◌-◌, ◌*◌, ◌/◌, ◌%◌, ◌<◌, ◌≤◌, true, false, nat_eq, nat_le, nat_lt, arith}
 use Rattle.std.proofs.lemmas.Bool.Decides.{nat_tests}
 
 pub eq_true : (a b : ℕ) → a ≡ b → nat_eq a b ≡ true
@@ -37,3 +37,14 @@ true_le a b h = grind (arith, nat_tests)
 
 pub false_le : (a b : ℕ) → nat_le a b ≡ false → b < a
 false_le a b h = grind (arith, nat_tests)
+
+pub eq_self : (n : ℕ) → nat_eq n n ≡ true
+eq_self n = grind (arith, nat_tests)
+
+-- one fewer is left
+pub one_fewer : (n i : ℕ) → i < n → n - i ≡ suc (n - (i + 1))
+one_fewer n i h = omega arith
+
+-- a number is its octets above the last, and the last
+pub two_octets : (n : ℕ) → n ≡ n / 256 * 256 + n % 256
+two_octets n = omega arith

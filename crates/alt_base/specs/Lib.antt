@@ -4,3 +4,4 @@ pub mod Classes
 pub mod MemorySource
 pub mod MemorySink
 pub mod Answers
+pub mod StandardDevices

@@ -33,3 +33,23 @@ impl Duplicate for u64 {
         Ok(*self)
     }
 }
+
+impl Duplicate for [u8; 4] {
+    fn copy(&self, alloc: Global) -> Result<Self, NoMemory> {
+        Ok(*self)
+    }
+}
+
+impl Duplicate for [u8; 16] {
+    fn copy(&self, alloc: Global) -> Result<Self, NoMemory> {
+        Ok(*self)
+    }
+}
+
+impl<A: Duplicate, B: Duplicate> Duplicate for (A, B) {
+    fn copy(&self, alloc: Global) -> Result<Self, NoMemory> {
+        let first = self.0.copy(alloc)?;
+        let second = self.1.copy(alloc)?;
+        Ok((first, second))
+    }
+}

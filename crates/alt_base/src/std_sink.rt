@@ -1,4 +1,4 @@
-ghost use Rattle.std.specs.Prelude.{None, List, ℕ};
+ghost use Rattle.std.specs.Prelude.{◌≡◌, None, List, ℕ};
 
 use crate::{Failed, Sink};
 use std::io::Write;
@@ -13,7 +13,12 @@ pub struct StdSink {
 }
 
 impl StdSink {
-    pub fn new(output: Stdout) -> StdSink {
+    ghost use Rattle.alt_base.specs.StandardDevices.{output_faults};
+
+    /// No write has failed yet.
+    pub fn new(output: Stdout) -> StdSink
+        ensures faults { output_faults result ≡ 0 }
+    {
         StdSink { output, faults: 0 }
     }
 }

@@ -1,4 +1,4 @@
-ghost use Rattle.std.specs.Prelude.{None, List, ℕ};
+ghost use Rattle.std.specs.Prelude.{◌≡◌, None, List, ℕ, false};
 
 use crate::{Failed, Source};
 use std::io::Read;
@@ -13,7 +13,13 @@ pub struct StdSource {
 }
 
 impl StdSource {
-    pub fn new(input: Stdin) -> StdSource {
+    ghost use Rattle.alt_base.specs.StandardDevices.{input_ended, input_faults};
+
+    /// No read has answered its end yet, and none has failed.
+    pub fn new(input: Stdin) -> StdSource
+        ensures ended { input_ended result ≡ false }
+        ensures faults { input_faults result ≡ 0 }
+    {
         StdSource {
             input,
             ended: false,

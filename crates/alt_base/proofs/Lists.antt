@@ -1,0 +1,40 @@
+-- Lists, and what loops make of them, one more item at a time.
+use Rattle.std.proofs.Common.{◌≡◌, ◌≢◌, ℕ, ◌+◌, ◌<◌, zero, suc, true, nat_eq, List, [], ◌∷◌, ◌++◌, map, take, drop, set, get_or, length, refl, ap, sym, ◌∙◌, subst, arith, add-one}
+use Rattle.std.proofs.Math.Seq.{drop-cons}
+use Rattle.std.specs.Cmp.Lexicographic.{pointwise, same_text}
+use Rattle.alt_base.proofs.Numbers.{eq_self}
+
+pub cons_not_nil : {X : Type 0} (x : X) (xs : List X) → x ∷ xs ≢ []
+cons_not_nil x xs e = cc
+
+-- the test of two texts
+
+pub text_self : (a : List ℕ) → pointwise nat_eq a a ≡ true
+text_self [] = refl
+text_self (b ∷ bs) = rw (eq_self b) (text_self bs)
+
+pub text_true : (a b : List ℕ) → a ≡ b → pointwise nat_eq a b ≡ true
+text_true a b e = subst (λ xs. pointwise nat_eq a xs ≡ true) e (text_self a)
+
+pub true_text : (a b : List ℕ) → pointwise nat_eq a b ≡ true → a ≡ b
+true_text a b h = same_text a b (sym h)
+
+-- the next item is the first of those that are left
+pub next_item : {X : Type 0} (items : List X) (count : ℕ) (item : X) → (count < length items) × (item ≡ get_or items count item) → drop count items ≡ item ∷ drop (count + 1) items
+next_item items count item h = rw (add-one, drop-cons items count item h.0) (ap (λ x. x ∷ drop (suc count) items) (sym h.1))
+
+-- one more item is mapped in its place
+
+set_suc : {X : Type 0} (f : X → X) (xs : List X) (i : ℕ) (y d : X) → i < length xs → y ≡ f (get_or xs i d) → set (map f (take i xs) ++ drop i xs) i y ≡ map f (take (suc i) xs) ++ drop (suc i) xs
+set_suc f [] i y d within is = absurd (omega arith)
+set_suc f (x ∷ xs) zero y d within is = ap (λ z. z ∷ xs) is
+set_suc f (x ∷ xs) (suc i) y d within is = ap (λ zs. f x ∷ zs) (set_suc f xs i y d (omega arith) is)
+
+pub at_place : {X : Type 0} (f : X → X) (xs : List X) (i : ℕ) (d : X) → i < length xs → get_or (map f (take i xs) ++ drop i xs) i d ≡ get_or xs i d
+at_place f [] i d within = absurd (omega arith)
+at_place f (x ∷ xs) zero d within = refl
+at_place f (x ∷ xs) (suc i) d within = at_place f xs i d (omega arith)
+
+pub set_mapped : {X : Type 0} (f : X → X) (xs ys : List X) (i : ℕ) (y d : X) → i < length xs → ys ≡ map f (take i xs) ++ drop i xs → y ≡ f (get_or ys i d) → set ys i y ≡ map f (take (i + 1) xs) ++ drop (i + 1) xs
+set_mapped f xs ys i y d within are is =
+    rw add-one (ap (λ zs. set zs i y) are ∙ set_suc f xs i y d within (is ∙ ap (λ zs. f (get_or zs i d)) are ∙ ap f (at_place f xs i d within)))
