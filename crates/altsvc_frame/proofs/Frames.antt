@@ -25,29 +25,8 @@ use Rattle.altsvc_frame.specs.FrameWritten.{IsOptionalOrigin, IsAltFrame}
 use Rattle.altsvc_grammar.proofs.ValidValues.{value_valid}
 use Rattle.origin_values.specs.AsciiReading.{ascii_origin}
 use Rattle.origin_values.proofs.AsciiOrigins.{ascii_spelled, ascii_read, ascii_none, none_ascii}
-use Rattle.alt_base.proofs.Numbers.{lt_true, lt_false, true_lt, false_lt}
-
-zero_from_test : (n : ℕ) → nat_eq n 0 ≡ true → n ≡ 0
-zero_from_test n h = grind arith
-
-test_from_zero : (n : ℕ) → n ≡ 0 → nat_eq n 0 ≡ true
-test_from_zero n h = grind arith
-
-other_from_test : (n : ℕ) → nat_eq n 0 ≡ false → n ≢ 0
-other_from_test n h e = false_true (sym h ∙ test_from_zero n e)
-  where
-    false_true : false ≡ true → ⊥
-    false_true x = cc
-
-test_from_other : (n : ℕ) → n ≢ 0 → nat_eq n 0 ≡ false
-test_from_other n other = go (nat_eq n 0) refl
-  where
-    go : (t : Bool) → nat_eq n 0 ≡ t → t ≡ false
-    go false is = refl
-    go true is = absurd (other (zero_from_test n is))
-
-some_octets : (b : ℕ) (bs : List ℕ) → b ∷ bs ≢ []
-some_octets b bs e = cc
+use Rattle.alt_base.proofs.Numbers.{lt_true, lt_false, true_lt, false_lt, eq_true, eq_false, true_eq, false_eq}
+use Rattle.alt_base.proofs.Lists.{cons_not_nil}
 
 -- the grammar's words for an answer
 abbrev pub FrameSays : ℕ → List ℕ → Answer → Type 0
@@ -80,19 +59,19 @@ zero_says stream payload [] field on split = (on, ([], field, split, refl), refl
 zero_says stream payload (b ∷ bs) field on split = go (ascii_origin (b ∷ bs)) refl
   where
     go : (origin : Option Origin) → ascii_origin (b ∷ bs) ≡ origin → FrameSays stream payload (behind_origin (2 + length (b ∷ bs)) field origin)
-    go None is = (on, (b ∷ bs, field, split, (some_octets b bs, ascii_none (b ∷ bs) is)), refl)
+    go None is = (on, (b ∷ bs, field, split, (cons_not_nil b bs, ascii_none (b ∷ bs) is)), refl)
     go (Some origin) is = field_says stream payload (b ∷ bs) field (Some origin) (read_value field) split (on, ascii_spelled (b ∷ bs) origin is) refl
 
 other_says : (stream : ℕ) (payload text field : List ℕ) → stream ≢ 0 → IsSplit payload text field → FrameSays stream payload (read_on_other text field)
 other_says stream payload [] field other split = field_says stream payload [] field None (read_value field) split (other, refl) refl
-other_says stream payload (b ∷ bs) field other split = (other, (b ∷ bs, field, split, some_octets b bs), refl)
+other_says stream payload (b ∷ bs) field other split = (other, (b ∷ bs, field, split, cons_not_nil b bs), refl)
 
 parts_says : (stream : ℕ) (payload text field : List ℕ) → IsSplit payload text field → FrameSays stream payload (read_parts stream text field)
 parts_says stream payload text field split = go (nat_eq stream 0) refl
   where
     go : (t : Bool) → nat_eq stream 0 ≡ t → FrameSays stream payload (cond t (read_on_zero text field) (read_on_other text field))
-    go true is = zero_says stream payload text field (zero_from_test stream is) split
-    go false is = other_says stream payload text field (other_from_test stream is) split
+    go true is = zero_says stream payload text field (true_eq stream 0 is) split
+    go false is = other_says stream payload text field (false_eq stream 0 is) split
 
 octets_say : (stream high low : ℕ) (octets : List ℕ) → FrameSays stream (high ∷ low ∷ octets) (read_octets stream (high * 256 + low) octets)
 octets_say stream high low octets = go (nat_lt (length octets) (high * 256 + low)) refl
@@ -124,10 +103,10 @@ split_read stream payload text field split = ap (read_frame stream) split.spelle
         ∙ ap₂ (read_parts stream) (take_at text field n long) (drop_at text field n long)
 
 on_zero_read : (stream : ℕ) (text field : List ℕ) → stream ≡ 0 → read_parts stream text field ≡ read_on_zero text field
-on_zero_read stream text field on = ap (λ t. cond t (read_on_zero text field) (read_on_other text field)) (test_from_zero stream on)
+on_zero_read stream text field on = ap (λ t. cond t (read_on_zero text field) (read_on_other text field)) (eq_true stream 0 on)
 
 on_other_read : (stream : ℕ) (text field : List ℕ) → stream ≢ 0 → read_parts stream text field ≡ read_on_other text field
-on_other_read stream text field other = ap (λ t. cond t (read_on_zero text field) (read_on_other text field)) (test_from_other stream other)
+on_other_read stream text field other = ap (λ t. cond t (read_on_zero text field) (read_on_other text field)) (eq_false stream 0 other)
 
 no_origin_empty : (origin : Origin) → [] ≡ origin_text origin → ⊥
 no_origin_empty origin e = go origin.scheme e
@@ -145,7 +124,7 @@ origin_read stream text field None h = on_other_read stream text field h.0 ∙ g
   where
     go : (xs : List ℕ) → xs ≡ [] → read_on_other xs field ≡ read_field None (2 + length xs) field
     go [] e = refl
-    go (b ∷ bs) e = absurd (some_octets b bs e)
+    go (b ∷ bs) e = absurd (cons_not_nil b bs e)
 origin_read stream text field (Some origin) h = on_zero_read stream text field h.0 ∙ zero_read text field origin h.1
 
 pub frame_read : (stream : ℕ) (payload : List ℕ) (frame : AltFrame) → SpellsFrame stream payload frame → read_frame stream payload ≡ Ok frame
@@ -156,7 +135,7 @@ frame_read stream payload frame h =
 
 empty_read : (text field : List ℕ) → text ≡ [] → read_on_zero text field ≡ refused 0 EmptyOnZero
 empty_read [] field e = refl
-empty_read (b ∷ bs) field e = absurd (some_octets b bs e)
+empty_read (b ∷ bs) field e = absurd (cons_not_nil b bs e)
 
 some_read : (text field : List ℕ) → text ≢ [] → read_on_other text field ≡ refused 0 OriginOnStream
 some_read [] field some = absurd (some refl)

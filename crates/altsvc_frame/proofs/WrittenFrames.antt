@@ -1,5 +1,5 @@
 -- The payload that says a frame is read back.
-use Rattle.std.proofs.Common.{◌≡◌, ℕ, ◌+◌, ◌*◌, ◌/◌, ◌%◌, ◌≤◌, List, length, Option, None, Some, Ok, refl, arith}
+use Rattle.std.proofs.Common.{◌≡◌, ℕ, ◌/◌, ◌%◌, ◌≤◌, List, length, Option, None, Some, Ok, refl}
 use Rattle.origin_values.specs.declared.origin.Origin.{Origin}
 use Rattle.altsvc_grammar.specs.Written.{value_text}
 use Rattle.altsvc_grammar.specs.ValueGrammar.{most_value_bytes}
@@ -9,9 +9,7 @@ use Rattle.altsvc_frame.specs.FrameGrammar.{IsSplit, SpellsFrameOrigin, SpellsFr
 use Rattle.altsvc_frame.specs.FrameReading.{read_frame}
 use Rattle.altsvc_frame.specs.FrameWritten.{optional_origin_text, parts_payload, payload_of, IsOptionalOrigin, IsAltFrame, IsStreamOf}
 use Rattle.altsvc_frame.proofs.Frames.{frame_read}
-
-two_octets : (n : ℕ) → n ≡ n / 256 * 256 + n % 256
-two_octets n = omega arith
+use Rattle.alt_base.proofs.Numbers.{two_octets}
 
 parts_split : (text field : List ℕ) → IsSplit (parts_payload text field) text field
 parts_split text field = record { high = length text / 256; low = length text % 256; spelled = refl; long = two_octets (length text) }

@@ -10,6 +10,7 @@ use Rattle.origin_values.specs.declared.address.Addr.{Addr}
 use Rattle.origin_values.specs.declared.address.Addr.TheVariants as address
 use Rattle.origin_values.proofs.Names.{name_labels, no_v4_and_name}
 use Rattle.coalescing.proofs.Apart.{false_true}
+use Rattle.std.proofs.lemmas.Bool.{and_right}
 
 abbrev HasColon : List ℕ → Type 0
 HasColon text = (front : List ℕ) × (back : List ℕ) × (text ≡ front ++ 58 ∷ back)
@@ -32,18 +33,14 @@ hex_has_colon : (text segments : List ℕ) → IsColonHex text segments → HasC
 hex_has_colon text segments (inl h) = eight_have_colon segments text h.1 h.0
 hex_has_colon text segments (inr h) = (h.head_text, 58 ∷ h.tail_text, h.spelled ∙ append_assoc h.head_text (58 ∷ 58 ∷ []) h.tail_text)
 
-and_false : (a b : Bool) → b ≡ false → (a && b) ≡ false
-and_false true b h = h
-and_false false b h = refl
-
 no_labels_at_colon : (front back : List ℕ) (count : ℕ) (digits : Bool) → are_labels count digits (front ++ 58 ∷ back) ≡ false
-no_labels_at_colon [] back count digits = and_false (nat_lt count 63) _ refl
+no_labels_at_colon [] back count digits = and_right (nat_lt count 63) _ refl
 no_labels_at_colon (b ∷ front) back count digits = go (λ n d. no_labels_at_colon front back n d) (nat_eq b 46)
   where
     go : ((n : ℕ) (d : Bool) → are_labels n d (front ++ 58 ∷ back) ≡ false) → (dot : Bool)
         → cond dot (nat_lt 0 count && are_labels 0 true (front ++ 58 ∷ back)) (nat_lt count 63 && (in_ranges host_name_class b && are_labels (count + 1) (digits && is_ascii_digit b) (front ++ 58 ∷ back))) ≡ false
-    go later true = and_false _ _ (later 0 true)
-    go later false = and_false _ _ (and_false _ _ (later (count + 1) (digits && is_ascii_digit b)))
+    go later true = and_right _ _ (later 0 true)
+    go later false = and_right _ _ (and_right _ _ (later (count + 1) (digits && is_ascii_digit b)))
 
 pub no_addr_and_name : (text name : List ℕ) (addr : Addr) → SpellsAddr text addr → SpellsName text name → ⊥
 no_addr_and_name text name (address.V4 bytes) h named = no_v4_and_name text bytes name h named

@@ -4,8 +4,9 @@ use Rattle.std.specs.List.{onto_first, join_with_byte}
 use Rattle.coalescing.specs.declared.cert_name.CertName.{CertName}
 use Rattle.coalescing.specs.NamesGrammar.{SpellEach, with_commas, EndsItem}
 use Rattle.coalescing.specs.NamesReading.{items_of}
-use Rattle.coalescing.proofs.Apart.{Without, same_from_test, without_nil, without_cons, without_tail, without_head}
+use Rattle.coalescing.proofs.Apart.{Without, without_nil, without_cons, without_tail, without_head}
 use Rattle.coalescing.proofs.Items.{item_apart}
+use Rattle.alt_base.proofs.Numbers.{true_eq}
 
 -- no item holds a comma
 abbrev pub AllApart : List (List ℕ) → Type 0
@@ -86,7 +87,7 @@ all_commas [] = refl
 all_commas (b ∷ bs) = go (nat_eq b 44) refl (all_commas bs)
   where
     go : (t : Bool) → nat_eq b 44 ≡ t → with_commas (items_of bs) ≡ bs ++ 44 ∷ [] → with_commas (cond t ([] ∷ items_of bs) (onto_first b (items_of bs))) ≡ b ∷ (bs ++ 44 ∷ [])
-    go true is h = ap (λ c. c ∷ with_commas (items_of bs)) (sym (same_from_test b 44 is)) ∙ ap (λ xs. b ∷ xs) h
+    go true is h = ap (λ c. c ∷ with_commas (items_of bs)) (sym (true_eq b 44 is)) ∙ ap (λ xs. b ∷ xs) h
     go false is h = commas_onto b bs (items_of bs) h
 
 pub length_all_commas : (text : List ℕ) → length (with_commas (items_of text)) ≡ length text + 1

@@ -1,9 +1,8 @@
 -- No asterisk and no comma stands in a host's name or in an address.
-use Rattle.std.proofs.Common.{◌≡◌, ℕ, ◌+◌, ◌<◌, ◌≤◌, Bool, true, false, cond, not, ◌&&◌, ◌||◌, nat_eq, nat_lt, List, [], ◌∷◌, ◌++◌, decimal, append_assoc, refl, ap, sym, ◌∙◌, subst, arith, inl, inr}
+use Rattle.std.proofs.Common.{◌≡◌, ℕ, ◌+◌, ◌<◌, ◌≤◌, Bool, true, false, cond, not, ◌&&◌, ◌||◌, nat_eq, nat_lt, List, [], ◌∷◌, ◌++◌, decimal, refl, ap, sym, ◌∙◌, subst, arith, inl, inr}
 use Rattle.std.specs.List.{list_all}
 use Rattle.std.specs.Char.{is_ascii_digit, digit_value}
 use Rattle.std.specs.Str.Parse.{AllDigits}
-use Rattle.std.specs.Net.Text.{dotted_text}
 use Rattle.std.specs.Net.Grammar.{IsDotted, IsColonHex, IsGroupsAfter}
 use Rattle.std.proofs.lemmas.Fmt.{decimal_is_IsNumeral}
 use Rattle.std.proofs.lemmas.List.Folds.{list_all-append}
@@ -13,8 +12,11 @@ use Rattle.origin_values.specs.HostReading.{are_labels}
 use Rattle.origin_values.specs.declared.address.Addr.{Addr}
 use Rattle.origin_values.specs.declared.address.Addr.TheVariants as address
 use Rattle.origin_values.proofs.Names.{name_labels}
-use Rattle.coalescing.proofs.Apart.{Without, same_from_test, false_true}
+use Rattle.coalescing.proofs.Apart.{Without, false_true}
 use Rattle.alt_base.proofs.Conjunctions.{both}
+use Rattle.alt_base.proofs.Numbers.{true_eq, lt_true}
+use Rattle.std.proofs.lemmas.Bool.{and_from, and_right}
+use Rattle.alt_base.proofs.Digits.{dotted_assoc}
 
 -- a byte other than `*` and `,`
 abbrev pub is_plain : ℕ → Bool
@@ -23,21 +25,14 @@ is_plain b = not (nat_eq b 42 || nat_eq b 44)
 abbrev pub IsPlain : List ℕ → Type 0
 IsPlain text = list_all is_plain text ≡ true
 
-and_from : (a b : Bool) → a ≡ true → b ≡ true → (a && b) ≡ true
-and_from a b h k = rw (h, k) refl
-
-and_false : (a b : Bool) → b ≡ false → (a && b) ≡ false
-and_false true b h = h
-and_false false b h = refl
-
 -- what a test that refuses both passes is neither
 plain_from : (test : ℕ → Bool) → test 42 ≡ false → test 44 ≡ false → (b : ℕ) → test b ≡ true → is_plain b ≡ true
 plain_from test no_asterisk no_comma b h = go (nat_eq b 42) (nat_eq b 44) refl refl
   where
     go : (s t : Bool) → nat_eq b 42 ≡ s → nat_eq b 44 ≡ t → not (s || t) ≡ true
     go false false is_asterisk is_comma = refl
-    go false true is_asterisk is_comma = absurd (false_true (sym no_comma ∙ ap test (sym (same_from_test b 44 is_comma)) ∙ h))
-    go true t is_asterisk is_comma = absurd (false_true (sym no_asterisk ∙ ap test (sym (same_from_test b 42 is_asterisk)) ∙ h))
+    go false true is_asterisk is_comma = absurd (false_true (sym no_comma ∙ ap test (sym (true_eq b 44 is_comma)) ∙ h))
+    go true t is_asterisk is_comma = absurd (false_true (sym no_asterisk ∙ ap test (sym (true_eq b 42 is_asterisk)) ∙ h))
 
 pub plain_append : (xs ys : List ℕ) → IsPlain xs → IsPlain ys → IsPlain (xs ++ ys)
 plain_append xs ys h k = list_all-append is_plain xs ys ∙ and_from _ _ h k
@@ -45,7 +40,7 @@ plain_append xs ys h k = list_all-append is_plain xs ys ∙ and_from _ _ h k
 -- a plain text holds no comma
 pub plain_apart : (text : List ℕ) → IsPlain text → Without 44 text
 plain_apart text h front back e =
-    false_true (sym (ap (list_all is_plain) e ∙ list_all-append is_plain front (44 ∷ back) ∙ and_false _ _ refl) ∙ h)
+    false_true (sym (ap (list_all is_plain) e ∙ list_all-append is_plain front (44 ∷ back) ∙ and_right _ _ refl) ∙ h)
 
 labels_plain : (text : List ℕ) (count : ℕ) (digits : Bool) → are_labels count digits text ≡ true → IsPlain text
 labels_plain [] count digits h = refl
@@ -65,20 +60,14 @@ labels_plain (b ∷ bs) count digits h = go (λ n d. labels_plain bs n d) (nat_e
 pub name_plain : (text name : List ℕ) → SpellsName text name → IsPlain text
 name_plain text name h = labels_plain text 0 true (name_labels text name h)
 
-test_from_lt : (a b : ℕ) → a < b → nat_lt a b ≡ true
-test_from_lt a b h = grind arith
-
 digits_plain : (radix : ℕ) (ds : List ℕ) → radix ≤ 16 → AllDigits radix ds → IsPlain ds
 digits_plain radix [] small h = refl
 digits_plain radix (c ∷ ds) small h =
     let digit : digit_value c < 16 = omega (arith, h.0) in
-    and_from _ _ (plain_from (λ b. nat_lt (digit_value b) 16) refl refl c (test_from_lt (digit_value c) 16 digit)) (digits_plain radix ds small h.1)
+    and_from _ _ (plain_from (λ b. nat_lt (digit_value b) 16) refl refl c (lt_true (digit_value c) 16 digit)) (digits_plain radix ds small h.1)
 
 number_plain : (n : ℕ) → n < 256 → IsPlain (decimal n)
 number_plain n small = digits_plain 10 (decimal n) (omega arith) (decimal_is_IsNumeral n (omega arith)).0.1
-
-dotted_assoc : (a b c d : ℕ) → dotted_text a b c d ≡ decimal a ++ 46 ∷ (decimal b ++ 46 ∷ (decimal c ++ 46 ∷ decimal d))
-dotted_assoc a b c d = simp append_assoc
 
 dot_then : (n : ℕ) (rest : List ℕ) → n < 256 → IsPlain rest → IsPlain (decimal n ++ 46 ∷ rest)
 dot_then n rest small h = plain_append (decimal n) (46 ∷ rest) (number_plain n small) h

@@ -12,10 +12,11 @@ use Rattle.coalescing.specs.declared.cert_name.CertName.{CertName}
 use Rattle.coalescing.specs.declared.cert_name.CertName.TheVariants.{Exact, Wild, Ip}
 use Rattle.coalescing.specs.NamesGrammar.{SpellsItem}
 use Rattle.coalescing.specs.NamesReading.{name_of, host_name, behind_wildcard, read_plain, wild_or_plain, read_item}
-use Rattle.coalescing.proofs.Apart.{Without, same_from_test, false_true, without_cons}
+use Rattle.coalescing.proofs.Apart.{Without, false_true, without_cons}
 use Rattle.coalescing.proofs.ItemBytes.{is_plain, IsPlain, plain_apart, name_plain, addr_plain}
 use Rattle.coalescing.proofs.Colons.{no_addr_and_name}
 use Rattle.alt_base.proofs.Conjunctions.{both}
+use Rattle.alt_base.proofs.Numbers.{true_eq}
 
 name_read : (text name : List ℕ) → SpellsName text name → host_name text ≡ Some name
 name_read text name h = ap name_of (read_host_complete text (Name name) h)
@@ -49,8 +50,8 @@ wildcard_spelled (a ∷ b ∷ bs) behind h = go (nat_eq a 42 && nat_eq b 46) ref
     go : (t : Bool) → (nat_eq a 42 && nat_eq b 46) ≡ t → cond t (Some bs) None ≡ Some behind → a ∷ b ∷ bs ≡ 42 ∷ 46 ∷ behind
     go true is e =
         let t = both (nat_eq a 42) (nat_eq b 46) is in
-        let first = same_from_test a 42 t.0 in
-        let second = same_from_test b 46 t.1 in
+        let first = true_eq a 42 t.0 in
+        let second = true_eq b 46 t.1 in
         cc
     go false is e = cc
 

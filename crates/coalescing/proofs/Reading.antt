@@ -1,6 +1,5 @@
 -- Reading items one by one.
-use Rattle.std.proofs.Common.{◌≡◌, ℕ, suc, ◌+◌, ◌<◌, ◌≤◌, List, [], ◌∷◌, ◌++◌, length, drop, get_or, None, Some, Ok, Err, append_assoc, append-nil, length-append, add-one, refl, ap, sym, ◌∙◌, arith}
-use Rattle.std.proofs.Math.Seq.{drop-cons}
+use Rattle.std.proofs.Common.{◌≡◌, ℕ, ◌+◌, ◌≤◌, List, [], ◌∷◌, ◌++◌, length, drop, None, Some, Ok, Err, append_assoc, append-nil, length-append, refl, ap, sym, ◌∙◌, arith}
 use Rattle.coalescing.specs.declared.cert_name.CertName.{CertName}
 use Rattle.coalescing.specs.declared.refusal.CertRefusal.TheVariants.{BadName}
 use Rattle.coalescing.specs.NamesGrammar.{with_commas}
@@ -30,10 +29,6 @@ at_start text = record {
 before_push : (names : List CertName) (name : CertName) (place : ℕ) (answer : Answer) → names_before names (name_onto place (Some name) answer) ≡ names_before (names ++ name ∷ []) answer
 before_push names name place (Ok more) = ap Ok (sym (append_assoc names (name ∷ []) more))
 before_push names name place (Err at) = refl
-
--- the next item is the first of those that are left
-pub next_item : (items : List (List ℕ)) (count : ℕ) (item : List ℕ) → (count < length items) × (item ≡ get_or items count item) → drop count items ≡ item ∷ drop (count + 1) items
-next_item items count item h = rw (add-one, drop-cons items count item h.0) (ap (λ x. x ∷ drop (suc count) items) (sym h.1))
 
 pub one_more : (text : List ℕ) (names : List CertName) (name : CertName) (item : List ℕ) (place count : ℕ) → IsSoFar text names place count
     → drop count (items_of text) ≡ item ∷ drop (count + 1) (items_of text) → Some name ≡ read_item item → IsSoFar text (names ++ name ∷ []) (place + (length item + 1)) (count + 1)

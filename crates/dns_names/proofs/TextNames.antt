@@ -14,9 +14,11 @@ use Rattle.dns_names.specs.TextGrammar.{JoinsLabels, SpellsText, TextRefusedAt}
 use Rattle.dns_names.specs.TextReading.{read_text}
 use Rattle.alt_base.proofs.Numbers.{true_eq}
 use Rattle.dns_names.proofs.NamesOf.{lower_bound, name_begins}
-use Rattle.dns_names.proofs.TextTokens.{clash}
 use Rattle.dns_names.proofs.TextSays.{TextSays, text_says, dotted_push, all_push, all_last, last_of}
 use Rattle.dns_names.proofs.TextSpelled.{spelled_reads}
+use Rattle.std.proofs.lemmas.Bool.{or_cases}
+use Rattle.alt_base.proofs.Digits.{digit_shown}
+use Rattle.alt_base.proofs.Booleans.{contradicts}
 
 pub read_says : (x : List ℕ) (name : List (List ℕ)) → read_text x ≡ Ok name → SpellsText x name
 read_says x name e = subst (TextSays x) e (text_says x)
@@ -67,12 +69,8 @@ read_name x name e = spelled_name x name (read_says x name e)
 abbrev IsMark : ℕ → Type 0
 IsMark b = (is_ascii_graphic b ≡ true) × (is_ascii_digit b ≡ false)
 
-or_true : (a b : Bool) → (a || b) ≡ true → (a ≡ true) ⊎ (b ≡ true)
-or_true true b h = inl refl
-or_true false b h = inr h
-
 mark_or : (b n : ℕ) (rest : Bool) → IsMark n → (rest ≡ true → IsMark b) → (nat_eq b n || rest) ≡ true → IsMark b
-mark_or b n rest mark next h = by (or_true (nat_eq b n) rest h)
+mark_or b n rest mark next h = by (or_cases (nat_eq b n) rest h)
   where
     by : (nat_eq b n ≡ true) ⊎ (rest ≡ true) → IsMark b
     by (inl e) = subst IsMark (sym (true_eq b n e)) mark
@@ -83,12 +81,10 @@ special_mark b =
     mark_or b 34 _ (refl, refl) (mark_or b 36 _ (refl, refl) (mark_or b 40 _ (refl, refl) (mark_or b 41 _ (refl, refl) (mark_or b 46 _ (refl, refl) (mark_or b 59 _ (refl, refl) (mark_or b 64 _ (refl, refl) (λ e. subst IsMark (sym (true_eq b 92 e)) (refl, refl))))))))
 
 not_special : (b n : ℕ) → is_special b ≡ false → is_special n ≡ true → b ≢ n
-not_special b n h special e = clash (is_special n) special (subst (λ m. is_special m ≡ false) e h)
+not_special b n h special e = contradicts (is_special n) special (subst (λ m. is_special m ≡ false) e h)
 
-digit_shown : (n : ℕ) → n < 10 → is_ascii_digit (48 + n) ≡ true
-digit_shown n h = grind (arith, nat_tests)
-
-three_digits : (b : ℕ) → b < 256 → decimal_value (48 + b / 100) (48 + b / 10 % 10) (48 + b % 10) ≡ b
+-- the three digits of a byte write it
+pub three_digits : (b : ℕ) → b < 256 → decimal_value (48 + b / 100) (48 + b / 10 % 10) (48 + b % 10) ≡ b
 three_digits b h = omega arith
 
 decimal_part : (b : ℕ) → b < 256 → IsPart (Decimal (48 + b / 100) (48 + b / 10 % 10) (48 + b % 10))

@@ -15,6 +15,7 @@ use Rattle.dns_names.proofs.WireSteps.{HasRoom}
 use Rattle.dns_names.proofs.WireSays.{begin_push}
 use Rattle.dns_names.proofs.TextTokens.{BeginsPart, StopSays, TokenSays, token_says}
 use Rattle.dns_names.proofs.TextSteps.{FaultSays, fault_says, part_some}
+use Rattle.std.proofs.lemmas.List.{nil_from_length}
 
 -- what an answer says
 abbrev pub TextSays : List ℕ → TextAnswer → Type 0
@@ -202,12 +203,8 @@ step_says k x rest labels parts start at Dot next no_root goes place here within
 step_says k x rest labels parts start at (Byte byte count) next no_root goes place here within s = byte_says k x rest labels parts start at byte count next goes place here within s
 step_says k x rest labels parts start at (Stop reason) next no_root goes place here within s = stop_says x rest labels parts at reason goes (omega (arith, place, here)) s
 
-none_left : (rest : List ℕ) → length rest ≤ 0 → rest ≡ []
-none_left [] h = refl
-none_left (b ∷ rest) h = absurd (omega arith)
-
 tokens_say : (k : ℕ) (x : List ℕ) → x ≢ 46 ∷ [] → NextSays k x
-tokens_say zero x no_root labels parts start at rest goes place here within = end_says x rest labels parts start goes (none_left rest within) place
+tokens_say zero x no_root labels parts start at rest goes place here within = end_says x rest labels parts start goes (nil_from_length rest (omega arith)) place
 tokens_say (suc k) x no_root labels parts start at rest goes place here within = step_says k x rest labels parts start at (token_at rest) (tokens_say k x no_root) no_root goes place here within (token_says rest)
 
 pub goes_first : (x : List ℕ) → TextGoesOn x [] [] x

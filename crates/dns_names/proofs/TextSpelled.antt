@@ -14,9 +14,10 @@ use Rattle.dns_names.specs.TextReading.{TextAnswer, label_fault, by_fault, label
 use Rattle.alt_base.proofs.Numbers.{eq_false, lt_true}
 use Rattle.dns_names.proofs.WireSteps.{HasRoom}
 use Rattle.dns_names.proofs.WireSays.{length_wire, length_octets_push}
-use Rattle.dns_names.proofs.TextTokens.{clash, token_part, token_bad_byte, token_bad_escape, no_dot_slash}
+use Rattle.dns_names.proofs.TextTokens.{token_part, token_bad_byte, token_bad_escape, no_dot_slash}
 use Rattle.dns_names.proofs.TextSteps.{no_fault, long_label, long_name, reads, reads_token}
 use Rattle.dns_names.proofs.TextSays.{TextSays, text_says, dot_is}
+use Rattle.alt_base.proofs.Booleans.{contradicts}
 
 same_reads : (ls ls' : List (List ℕ)) (l l' : List ℕ) (s s' a a' : ℕ) (x x' : List ℕ) → ls ≡ ls' → l ≡ l' → s ≡ s' → a ≡ a' → x ≡ x' → reads ls l s a x ≡ reads ls' l' s' a' x'
 same_reads ls ls' l l' s s' a a' x x' e f g h i = cc
@@ -120,7 +121,7 @@ dot_not_refused q BadEscape s = no_dot_slash s.rest [] (all_rest s.labels s.part
 dot_not_refused q BadByte s =
     let e = all_rest s.labels s.parts (s.byte ∷ s.rest) s.behind in
     let same : s.byte ≡ 46 = cc in
-    clash (is_ascii_graphic 46) refl (subst (λ b. is_ascii_graphic b ≡ false) same s.bad)
+    contradicts (is_ascii_graphic 46) refl (subst (λ b. is_ascii_graphic b ≡ false) same s.bad)
 dot_not_refused q EmptyLabel s = why s.empty
   where
     why : (dot_alone ≡ []) ⊎ ((more : List ℕ) × (s.rest ≡ 46 ∷ more) × (dot_alone ≢ dot_alone)) → ⊥

@@ -8,6 +8,8 @@ use Rattle.dns_names.specs.declared.token.Token.TheVariants.{End, Dot, Byte, Sto
 use Rattle.dns_names.specs.TextParts.{Part, Raw, Quoted, Decimal, part_text, part_byte, decimal_value, IsPart}
 use Rattle.dns_names.specs.TextReading.{is_decimal, decimal_at, escape_at, token_at}
 use Rattle.alt_base.proofs.Numbers.{eq_false, true_eq, false_eq, le_true, true_le}
+use Rattle.alt_base.proofs.Booleans.{contradicts}
+use Rattle.std.proofs.lemmas.Bool.{and_parts}
 
 -- a backslash with this rest begins no part
 abbrev pub NoPart : List ℕ → Type 0
@@ -36,17 +38,11 @@ TokenSays x Dot = (more : List ℕ) × (x ≡ 46 ∷ more)
 TokenSays x (Byte byte count) = BeginsPart x byte count
 TokenSays x (Stop reason) = StopSays x reason
 
-pub clash : {P : Type 0} (b : Bool) → b ≡ true → b ≡ false → P
-clash b t f = cc
-
-and_true : (a b : Bool) → (a && b) ≡ true → (a ≡ true) × (b ≡ true)
-and_true true b h = (refl, h)
-and_true false b h = cc
-
-all_true : (a b c : ℕ) → is_decimal a b c ≡ true → (is_ascii_digit b ≡ true) × (is_ascii_digit c ≡ true) × (nat_le (decimal_value a b c) 255 ≡ true)
-all_true a b c h =
-    let one = and_true (is_ascii_digit b) _ h in
-    let two = and_true (is_ascii_digit c) _ one.1 in
+-- what the test of three digits says
+pub decimal_holds : (a b c : ℕ) → is_decimal a b c ≡ true → (is_ascii_digit b ≡ true) × (is_ascii_digit c ≡ true) × (nat_le (decimal_value a b c) 255 ≡ true)
+decimal_holds a b c h =
+    let one = and_parts (is_ascii_digit b) _ h in
+    let two = and_parts (is_ascii_digit c) _ one.1 in
     (one.0, two.0, two.1)
 
 true_all : (a b c : ℕ) → IsPart (Decimal a b c) → is_decimal a b c ≡ true
@@ -62,14 +58,14 @@ no_part rest quoted decimal (Decimal a b c) more valid e = let same : rest ≡ a
 
 -- a digit isn't behind a backslash alone
 no_quoted : (a b : ℕ) (rest more : List ℕ) → is_ascii_digit a ≡ true → a ∷ rest ≡ b ∷ more → IsPart (Quoted b) → ⊥
-no_quoted a b rest more digit e valid = let same : a ≡ b = cc in clash (is_ascii_digit b) (subst (λ n. is_ascii_digit n ≡ true) same digit) valid.1
+no_quoted a b rest more digit e valid = let same : a ≡ b = cc in contradicts (is_ascii_digit b) (subst (λ n. is_ascii_digit n ≡ true) same digit) valid.1
 
 three_says : (a b c : ℕ) (rest : List ℕ) (t : Bool) → is_ascii_digit a ≡ true → is_decimal a b c ≡ t → TokenSays (92 ∷ a ∷ b ∷ c ∷ rest) (cond t (Byte (decimal_value a b c) 4) (Stop BadEscape))
 three_says a b c rest true digit is =
-    let all = all_true a b c is in
+    let all = decimal_holds a b c is in
     record { part = Decimal a b c; more = rest; valid = (digit, all.0, all.1, true_le _ _ all.2); text = refl; byte_is = refl; count_is = refl }
 three_says a b c rest false digit is =
-    (b_rest, refl, no_part b_rest (λ n more e valid. no_quoted a n (b ∷ c ∷ rest) more digit e valid) (λ a' b' c' more e valid. clash (is_decimal a b c) (same a' b' c' more e valid) is))
+    (b_rest, refl, no_part b_rest (λ n more e valid. no_quoted a n (b ∷ c ∷ rest) more digit e valid) (λ a' b' c' more e valid. contradicts (is_decimal a b c) (same a' b' c' more e valid) is))
   where
     b_rest : List ℕ
     b_rest = a ∷ b ∷ c ∷ rest
@@ -89,7 +85,7 @@ digit_says a (b ∷ c ∷ rest) digit = three_says a b c rest (is_decimal a b c)
 other_says : (b : ℕ) (rest : List ℕ) (shown : Bool) → is_ascii_digit b ≡ false → is_ascii_graphic b ≡ shown → TokenSays (92 ∷ b ∷ rest) (cond shown (Byte b 2) (Stop BadEscape))
 other_says b rest true digit is = record { part = Quoted b; more = rest; valid = (is, digit); text = refl; byte_is = refl; count_is = refl }
 other_says b rest false digit is =
-    (b ∷ rest, refl, no_part (b ∷ rest) (λ n more e valid. let same : b ≡ n = cc in clash (is_ascii_graphic n) valid.0 (subst (λ m. is_ascii_graphic m ≡ false) same is)) (λ a' b' c' more e valid. let same : b ≡ a' = cc in clash (is_ascii_digit a') valid.0 (subst (λ m. is_ascii_digit m ≡ false) same digit)))
+    (b ∷ rest, refl, no_part (b ∷ rest) (λ n more e valid. let same : b ≡ n = cc in contradicts (is_ascii_graphic n) valid.0 (subst (λ m. is_ascii_graphic m ≡ false) same is)) (λ a' b' c' more e valid. let same : b ≡ a' = cc in contradicts (is_ascii_digit a') valid.0 (subst (λ m. is_ascii_digit m ≡ false) same digit)))
 
 behind_says : (b : ℕ) (rest : List ℕ) (digit : Bool) → is_ascii_digit b ≡ digit → TokenSays (92 ∷ b ∷ rest) (cond digit (decimal_at b rest) (cond (is_ascii_graphic b) (Byte b 2) (Stop BadEscape)))
 behind_says b rest true is = digit_says b rest is
@@ -127,8 +123,8 @@ token_part (Decimal a b c) more valid =
 
 pub token_bad_byte : (b : ℕ) (rest : List ℕ) → is_ascii_graphic b ≡ false → token_at (b ∷ rest) ≡ Stop BadByte
 token_bad_byte b rest bad =
-    let p : nat_eq b 46 ≡ false = eq_false _ _ (λ e. clash (is_ascii_graphic 46) refl (subst (λ n. is_ascii_graphic n ≡ false) e bad)) in
-    let q : nat_eq b 92 ≡ false = eq_false _ _ (λ e. clash (is_ascii_graphic 92) refl (subst (λ n. is_ascii_graphic n ≡ false) e bad)) in
+    let p : nat_eq b 46 ≡ false = eq_false _ _ (λ e. contradicts (is_ascii_graphic 46) refl (subst (λ n. is_ascii_graphic n ≡ false) e bad)) in
+    let q : nat_eq b 92 ≡ false = eq_false _ _ (λ e. contradicts (is_ascii_graphic 92) refl (subst (λ n. is_ascii_graphic n ≡ false) e bad)) in
     rw (p, q, bad) refl
 
 pub no_dot_slash : {P : Type 0} (xs ys : List ℕ) → 92 ∷ xs ≡ 46 ∷ ys → P
@@ -144,7 +140,7 @@ pub token_bad_escape : (rest : List ℕ) → NoPart rest → token_at (92 ∷ re
 token_bad_escape rest none = by_token (escape_at rest) (escape_says rest)
   where
     by_stop : (reason : NameRefusal) → StopSays (92 ∷ rest) reason → Stop reason ≡ Stop BadEscape
-    by_stop BadByte s = let same : 92 ≡ s.0 = cc in clash (is_ascii_graphic 92) refl (subst (λ n. is_ascii_graphic n ≡ false) (sym same) s.3)
+    by_stop BadByte s = let same : 92 ≡ s.0 = cc in contradicts (is_ascii_graphic 92) refl (subst (λ n. is_ascii_graphic n ≡ false) (sym same) s.3)
     by_stop BadEscape s = refl
     by_stop LabelTooLong s = absurd s
     by_stop NameTooLong s = absurd s

@@ -10,6 +10,7 @@ use Rattle.dns_names.specs.Names.{IsSized, AreSized, labels_octets, wire_form, C
 use Rattle.dns_names.specs.WireGrammar.{SpellsUpTo, GoesOn, Stops, IsStopped, IsCutLabel, IsShort, WireRefusedAt}
 use Rattle.dns_names.specs.WireReading.{WireAnswer, begins_with, read_by, read_labels, read_wire}
 use Rattle.dns_names.proofs.WireSteps.{HasRoom, StopsAt, BeginSays, begin_says}
+use Rattle.std.proofs.lemmas.List.{nil_from_length}
 
 pub octets_push : (labels : List (List ℕ)) (label : List ℕ) → labels_octets (labels ++ label ∷ []) ≡ labels_octets labels ++ length label ∷ label
 octets_push [] label = ap (λ xs. length label ∷ xs) (append-nil label)
@@ -117,12 +118,8 @@ step_says k p used x rest labels (Label n) next goes count within h =
 step_says k p used x rest labels (Stop reason) next goes count within h = stop_says p used h.0 x h.1 labels reason (goes_same x rest (h.0 ∷ h.1) labels goes h.2) count h.3
 step_says k p used x rest labels Cut next goes count within h = short_says p used x rest labels goes count (cut_label labels used rest count h)
 
-none_left : (rest : List ℕ) → length rest ≤ 0 → rest ≡ []
-none_left [] h = refl
-none_left (n ∷ rest) h = absurd (omega arith)
-
 labels_say : (k p : ℕ) (x : List ℕ) → NextSays k p x
-labels_say zero p x used rest labels goes count within = short_says p used x rest labels goes count (inl (none_left rest within))
+labels_say zero p x used rest labels goes count within = short_says p used x rest labels goes count (inl (nil_from_length rest (omega arith)))
 labels_say (suc k) p x used rest labels goes count within = step_says k p used x rest labels (begins_with used rest) (labels_say k p x) goes count within (begin_says used rest)
 
 pub wire_says : (p : ℕ) (x : List ℕ) → Says p x (read_wire p x)

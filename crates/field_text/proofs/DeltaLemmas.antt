@@ -5,20 +5,14 @@ use Rattle.std.specs.Int.{IsInRange}
 use Rattle.std.specs.Char.{is_ascii_digit, digit_value}
 use Rattle.std.specs.Fmt.{decimal}
 use Rattle.std.specs.Str.Parse.{AllDigits, digits_value, digits_value_after}
-use Rattle.std.proofs.lemmas.Bool.Decides.{nat_tests}
 use Rattle.std.proofs.lemmas.List.Folds.{list_all_at}
 use Rattle.std.proofs.lemmas.Grind.{common_steps}
 use Rattle.std.proofs.lemmas.Str.{digit_value_digit}
-use Rattle.std.proofs.lemmas.Str.Parse.{digit_from_value, IsNumeralModel, numerals_by_value, tells_digits}
+use Rattle.std.proofs.lemmas.Str.Parse.{IsNumeralModel, numerals_by_value, tells_digits}
 use Rattle.std.proofs.lemmas.Fmt.{decimal_nonempty, digits_decimal, digits_value-decimal}
 use Rattle.field_text.specs.DeltaGrammar.{greatest_delta_seconds, SpellsDelta, HasOther, IsNoDelta, OneDelta}
 use Rattle.field_text.specs.DeltaReading.{read_delta_seconds}
-
-in_range : (b : ℕ) → is_ascii_digit b ≡ true → IsInRange 48 57 b
-in_range b is = grind (arith, nat_tests)
-
-is_digit : (b : ℕ) → IsInRange 48 57 b → is_ascii_digit b ≡ true
-is_digit b is = grind (arith, nat_tests)
+use Rattle.alt_base.proofs.Digits.{digit_range, all_digits, digits_all}
 
 -- the loop: the number so far, and the bytes from here on
 abbrev pub read_digits : ℕ → List ℕ → Option ℕ
@@ -30,7 +24,7 @@ whole m x = cond (list_all is_ascii_digit x) (Some (min (digits_value_after 10 m
 
 next_number : (n m b : ℕ) → n ≡ min m greatest_delta_seconds → is_ascii_digit b ≡ true → min (n * 10 + (b - 48)) greatest_delta_seconds ≡ min (m * 10 + digit_value b) greatest_delta_seconds
 next_number n m b is digit =
-    let range : IsInRange 48 57 b = in_range b digit in
+    let range : IsInRange 48 57 b = digit_range b digit in
     omega (arith, digit_value_digit b range)
 
 -- a capped number goes on as the number itself, then capped
@@ -54,20 +48,6 @@ end_read n i x some end reads = ap (read_digits n) (sym (drop_all x i end)) ∙ 
   where
     drop_all : (xs : List ℕ) (k : ℕ) → length xs ≤ k → drop k xs ≡ []
     drop_all xs k h = grind (arith, common_steps)
-
-all_digits : (x : List ℕ) → list_all is_ascii_digit x ≡ true → AllDigits 10 x
-all_digits [] is = tt
-all_digits (b ∷ bs) is = go (is_ascii_digit b) refl is (λ rest. all_digits bs rest)
-  where
-    go : (t : Bool) → is_ascii_digit b ≡ t → (t && list_all is_ascii_digit bs) ≡ true → (list_all is_ascii_digit bs ≡ true → AllDigits 10 bs) → (digit_value b < 10) × AllDigits 10 bs
-    go true digit rest rec =
-        let range : IsInRange 48 57 b = in_range b digit in
-        (omega (arith, digit_value_digit b range), rec rest)
-    go false digit rest rec = cc
-
-digits_all : (x : List ℕ) → AllDigits 10 x → list_all is_ascii_digit x ≡ true
-digits_all [] valid = refl
-digits_all (b ∷ bs) valid = rw (is_digit b (digit_from_value b valid.0)) (digits_all bs valid.1)
 
 prepend_other : (b : ℕ) (bs : List ℕ) → HasOther bs → HasOther (b ∷ bs)
 prepend_other b bs s = record { before = b ∷ s.before; byte = s.byte; after = s.after; text = ap (λ xs. b ∷ xs) s.text; no_digit = s.no_digit }

@@ -8,6 +8,7 @@ use Rattle.field_text.specs.Refusals.{refused}
 use Rattle.field_text.specs.QuotedReading.{read_body, read_quoted}
 use Rattle.field_text.specs.QuotedGrammar.{is_quoted_text, is_after_backslash, Part, Raw, Escaped, part_text, parts_text, IsPart, AreParts, SpellsQuoted, QuotedRefusedAt, OneQuoted}
 use Rattle.field_text.proofs.OneReadingLemmas.{Says, one_reading}
+use Rattle.alt_base.proofs.Numbers.{true_eq, false_eq, eq_false}
 
 -- the same of the text behind the opening quote
 abbrev pub BodyEnds : ℕ → List ℕ → ℕ → Type 0
@@ -50,19 +51,13 @@ prepend : (part : Part) (p p' : ℕ) (bs : List ℕ) (r : Result ℕ (At TextRef
 prepend part p p' bs (Ok q) valid place s = (part ∷ s.0, s.1, (valid, s.2), onto part s.0 bs (34 ∷ s.1) s.3, omega (arith, s.4, place, longer part s.0))
 prepend part p p' bs (Err at) valid place s = prepend_refused part p p' at.place bs at.reason valid place s
 
-same_from_test : (a b : ℕ) → nat_eq a b ≡ true → a ≡ b
-same_from_test a b h = grind arith
-
-other_from_test : (a b : ℕ) → nat_eq a b ≡ false → a ≢ b
-other_from_test a b h e = grind arith
-
 -- by the tests of the first byte
 plain_byte : (p b : ℕ) (bs : List ℕ) (quote slash text : Bool) → nat_eq b 34 ≡ quote → nat_eq b 92 ≡ slash → is_quoted_text b ≡ text → BodySays (p + 1) bs (read_body false (p + 1) bs) → BodySays p (92 ∷ bs) (read_body true (p + 1) bs)
     → BodySays p (b ∷ bs) (cond quote (Ok (p + 1)) (cond slash (read_body true (p + 1) bs) (cond text (read_body false (p + 1) bs) (refused p BadByte))))
-plain_byte p b bs true slash text quote_is slash_is text_is says escaped = ([], bs, tt, ap (λ c. c ∷ bs) (same_from_test b 34 quote_is), omega arith)
-plain_byte p b bs false true text quote_is slash_is text_is says escaped = subst (λ c. BodySays p (c ∷ bs) (read_body true (p + 1) bs)) (sym (same_from_test b 92 slash_is)) escaped
+plain_byte p b bs true slash text quote_is slash_is text_is says escaped = ([], bs, tt, ap (λ c. c ∷ bs) (true_eq b 34 quote_is), omega arith)
+plain_byte p b bs false true text quote_is slash_is text_is says escaped = subst (λ c. BodySays p (c ∷ bs) (read_body true (p + 1) bs)) (sym (true_eq b 92 slash_is)) escaped
 plain_byte p b bs false false true quote_is slash_is text_is says escaped = prepend (Raw b) p (p + 1) bs (read_body false (p + 1) bs) text_is refl says
-plain_byte p b bs false false false quote_is slash_is text_is says escaped = inl ([], b, bs, tt, refl, text_is, other_from_test b 34 quote_is, other_from_test b 92 slash_is, omega arith)
+plain_byte p b bs false false false quote_is slash_is text_is says escaped = inl ([], b, bs, tt, refl, text_is, false_eq b 34 quote_is, false_eq b 92 slash_is, omega arith)
 
 escaped_byte : (p b : ℕ) (bs : List ℕ) (allowed : Bool) → is_after_backslash b ≡ allowed → BodySays (p + 1 + 1) bs (read_body false (p + 1 + 1) bs) → BodySays p (92 ∷ b ∷ bs) (cond allowed (read_body false (p + 1 + 1) bs) (refused (p + 1) BadByte))
 escaped_byte p b bs true allowed_is says = prepend (Escaped b) p (p + 1 + 1) bs (read_body false (p + 1 + 1) bs) allowed_is (omega arith) says
@@ -81,7 +76,7 @@ pub text_no_quote : (b : ℕ) → is_quoted_text b ≡ true → nat_eq b 34 ≡ 
 text_no_quote b valid = go (nat_eq b 34) refl
   where
     go : (t : Bool) → nat_eq b 34 ≡ t → t ≡ false
-    go true is = absurd (clash (subst (λ c. is_quoted_text c ≡ true) (same_from_test b 34 is) valid))
+    go true is = absurd (clash (subst (λ c. is_quoted_text c ≡ true) (true_eq b 34 is) valid))
       where
         clash : false ≡ true → ⊥
         clash e = cc
@@ -91,14 +86,11 @@ pub text_no_slash : (b : ℕ) → is_quoted_text b ≡ true → nat_eq b 92 ≡ 
 text_no_slash b valid = go (nat_eq b 92) refl
   where
     go : (t : Bool) → nat_eq b 92 ≡ t → t ≡ false
-    go true is = absurd (clash (subst (λ c. is_quoted_text c ≡ true) (same_from_test b 92 is) valid))
+    go true is = absurd (clash (subst (λ c. is_quoted_text c ≡ true) (true_eq b 92 is) valid))
       where
         clash : false ≡ true → ⊥
         clash e = cc
     go false is = refl
-
-test_from_other : (a b : ℕ) → a ≢ b → nat_eq a b ≡ false
-test_from_other a b h = grind arith
 
 -- the parts are passed over
 pub read_parts : (parts : List Part) (p : ℕ) (tail : List ℕ) → AreParts parts → read_body false p (parts_text parts ++ tail) ≡ read_body false (p + length (parts_text parts)) tail
@@ -129,10 +121,10 @@ quoted_refused p q Empty [] s = at_is p q Empty (sym s.0)
 quoted_refused p q Empty (b ∷ bs) s = go (nat_eq b 34) refl
   where
     go : (t : Bool) → nat_eq b 34 ≡ t → cond t (read_body false (p + 1) bs) (refused p Empty) ≡ refused q Empty
-    go true is = absurd (s.1 (same_from_test b 34 is))
+    go true is = absurd (s.1 (true_eq b 34 is))
     go false is = at_is p q Empty (sym s.0)
 quoted_refused p q BadByte x (inl s) =
-    rw s.text (read_parts s.parts (p + 1) (s.byte ∷ s.rest) s.valid ∙ rw (test_from_other s.byte 34 s.no_quote, test_from_other s.byte 92 s.no_backslash, s.bad) (at_is _ _ BadByte (sym s.place)))
+    rw s.text (read_parts s.parts (p + 1) (s.byte ∷ s.rest) s.valid ∙ rw (eq_false s.byte 34 s.no_quote, eq_false s.byte 92 s.no_backslash, s.bad) (at_is _ _ BadByte (sym s.place)))
 quoted_refused p q BadByte x (inr s) =
     rw s.text (read_parts s.parts (p + 1) (92 ∷ s.byte ∷ s.rest) s.valid ∙ rw s.bad (at_is _ _ BadByte (sym s.place)))
 quoted_refused p q Unclosed x s = rw s.text (read_parts s.parts (p + 1) s.tail s.valid ∙ tails s.tail s.cut (s.place ∙ ap (λ xs. p + length xs) s.text))
@@ -163,8 +155,8 @@ quoted_says p [] = (refl, λ h. h)
 quoted_says p (b ∷ bs) = go (nat_eq b 34) refl
   where
     go : (t : Bool) → nat_eq b 34 ≡ t → QuotedSays p (b ∷ bs) (cond t (read_body false (p + 1) bs) (refused p Empty))
-    go true is = subst (λ c. QuotedSays p (c ∷ bs) (read_body false (p + 1) bs)) (sym (same_from_test b 34 is)) (from_body p bs (read_body false (p + 1) bs) ((body_says bs).0 (p + 1)))
-    go false is = (refl, other_from_test b 34 is)
+    go true is = subst (λ c. QuotedSays p (c ∷ bs) (read_body false (p + 1) bs)) (sym (true_eq b 34 is)) (from_body p bs (read_body false (p + 1) bs) ((body_says bs).0 (p + 1)))
+    go false is = (refl, false_eq b 34 is)
 
 -- exactly one reading or exactly one refusal
 pub one_quoted_of : (p : ℕ) (x : List ℕ) → OneQuoted p x

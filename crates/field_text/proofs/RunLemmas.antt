@@ -1,6 +1,7 @@
 -- The longest run in front of a text.
 use Rattle.std.proofs.Common.{◌≡◌, ℕ, Bool, true, false, cond, List, [], ◌∷◌, ◌++◌, ◌-◌, ◌≤◌, length, take, drop, refl, ap, ◌∙◌, arith, length-drop}
 use Rattle.std.proofs.lemmas.List.{take_all, drop-drop}
+use Rattle.std.proofs.Math.Seq.{take-append_seam, drop-append_seam}
 use Rattle.field_text.specs.Runs.{AllIn, BeginsIn, IsLongestRun, run_of, after_run}
 
 run_split : (class : ℕ → Bool) (x : List ℕ) → x ≡ run_of class x ++ after_run class x
@@ -78,3 +79,19 @@ drop_on p q x below = drop-drop (q - p) p x ∙ ap (λ n. drop n x) (omega arith
 -- a slice from a place to the end, as a call is given it
 pub slice_rest : (p : ℕ) (x : List ℕ) → take (length x - p) (drop p x) ≡ drop p x
 slice_rest p x = take_all (length x - p) (drop p x) (omega (arith, length-drop p x))
+
+-- two runs of a class are one
+pub AllIn-append : (class : ℕ → Bool) (xs ys : List ℕ) → AllIn class xs → AllIn class ys → AllIn class (xs ++ ys)
+AllIn-append class [] ys h k = k
+AllIn-append class (x ∷ xs) ys h k = (h.0, AllIn-append class xs ys h.1 k)
+
+-- a run in front is taken by its length, and dropped by it
+pub run_taken : (class : ℕ → Bool) (x : List ℕ) → take (length (run_of class x)) x ≡ run_of class x
+run_taken class x = ap (take (length (run_of class x))) (run_split class x) ∙ take-append_seam (run_of class x) (after_run class x)
+
+pub run_dropped : (class : ℕ → Bool) (x : List ℕ) → drop (length (run_of class x)) x ≡ after_run class x
+run_dropped class x = ap (drop (length (run_of class x))) (run_split class x) ∙ drop-append_seam (run_of class x) (after_run class x)
+
+-- by a number that is that length
+pub taken_by : (class : ℕ → Bool) (x : List ℕ) (n : ℕ) → n ≡ length (run_of class x) → take n x ≡ run_of class x
+taken_by class x n is = ap (λ m. take m x) is ∙ run_taken class x

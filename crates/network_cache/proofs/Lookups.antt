@@ -8,13 +8,15 @@ use Rattle.network_cache.specs.declared.kept.Kept.{Kept}
 use Rattle.network_cache.specs.declared.entry.Entry.{Entry}
 use Rattle.network_cache.specs.Origins.{is_among, are_distinct}
 use Rattle.network_cache.specs.Entries.{is_of, is_of_other, origins_of, kept_in, narrowed, narrowed_for, put_at, holds_some}
-use Rattle.network_cache.proofs.Lists.{contradicts, or_left, or_right, not_left, not_right, neither, and_left, and_right, both, from_not, not_from}
-use Rattle.network_cache.proofs.Origins.{one_origin, turned_not, along, along_right}
+use Rattle.network_cache.proofs.Origins.{turned_not, along, along_right}
+use Rattle.alt_base.proofs.Booleans.{contradicts, first_of_neither, second_of_neither, first_of_both, second_of_both}
+use Rattle.std.proofs.lemmas.Bool.{or_left, or_right, or_from, and_from, not-true, not_from_false}
+use Rattle.origin_values.proofs.Equal.{true_origin}
 
 -- where an origin has no entry, nothing is kept for it
 pub kept_of_none : (es : List Entry) (o : Origin) → is_among o (origins_of es) ≡ false → kept_in es o ≡ []
 kept_of_none [] o none = refl
-kept_of_none (e ∷ es) o none = rw (not_left (origin_eq o e.origin) (is_among o (origins_of es)) none) (kept_of_none es o (not_right (origin_eq o e.origin) (is_among o (origins_of es)) none))
+kept_of_none (e ∷ es) o none = rw (first_of_neither (origin_eq o e.origin) (is_among o (origins_of es)) none) (kept_of_none es o (second_of_neither (origin_eq o e.origin) (is_among o (origins_of es)) none))
 
 -- entries are narrowed
 
@@ -65,24 +67,24 @@ kept_narrowed_for q p (e ∷ es) o =
 
 among_dropped : (p : Entry → Bool) (es : List Entry) (o : Origin) → is_among o (origins_of es) ≡ false → is_among o (origins_of (filter p es)) ≡ false
 among_dropped p [] o none = refl
-among_dropped p (e ∷ es) o none = by_test (p e) (among_dropped p es o (not_right (origin_eq o e.origin) (is_among o (origins_of es)) none))
+among_dropped p (e ∷ es) o none = by_test (p e) (among_dropped p es o (second_of_neither (origin_eq o e.origin) (is_among o (origins_of es)) none))
   where
     by_test : (w : Bool) → is_among o (origins_of (filter p es)) ≡ false → is_among o (origins_of (cond w (e ∷ filter p es) (filter p es))) ≡ false
-    by_test true rest = neither (origin_eq o e.origin) (is_among o (origins_of (filter p es))) (not_left (origin_eq o e.origin) (is_among o (origins_of es)) none) rest
+    by_test true rest = or_from (origin_eq o e.origin) (is_among o (origins_of (filter p es))) (first_of_neither (origin_eq o e.origin) (is_among o (origins_of es)) none) rest
     by_test false rest = rest
 
 first_alone : (e : Entry) (es : List Entry) → are_distinct (origins_of (e ∷ es)) ≡ true → is_among e.origin (origins_of es) ≡ false
-first_alone e es h = from_not (is_among e.origin (origins_of es)) (and_left (not (is_among e.origin (origins_of es))) (are_distinct (origins_of es)) h)
+first_alone e es h = not-true (is_among e.origin (origins_of es)) (first_of_both (not (is_among e.origin (origins_of es))) (are_distinct (origins_of es)) h)
 
 rest_distinct : (e : Entry) (es : List Entry) → are_distinct (origins_of (e ∷ es)) ≡ true → are_distinct (origins_of es) ≡ true
-rest_distinct e es h = and_right (not (is_among e.origin (origins_of es))) (are_distinct (origins_of es)) h
+rest_distinct e es h = second_of_both (not (is_among e.origin (origins_of es))) (are_distinct (origins_of es)) h
 
 pub distinct_dropped : (p : Entry → Bool) (es : List Entry) → are_distinct (origins_of es) ≡ true → are_distinct (origins_of (filter p es)) ≡ true
 distinct_dropped p [] h = refl
 distinct_dropped p (e ∷ es) h = by_test (p e) (distinct_dropped p es (rest_distinct e es h))
   where
     by_test : (w : Bool) → are_distinct (origins_of (filter p es)) ≡ true → are_distinct (origins_of (cond w (e ∷ filter p es) (filter p es))) ≡ true
-    by_test true rest = both (not (is_among e.origin (origins_of (filter p es)))) (are_distinct (origins_of (filter p es))) (not_from (is_among e.origin (origins_of (filter p es))) (among_dropped p es e.origin (first_alone e es h))) rest
+    by_test true rest = and_from (not (is_among e.origin (origins_of (filter p es)))) (are_distinct (origins_of (filter p es))) (not_from_false (is_among e.origin (origins_of (filter p es))) (among_dropped p es e.origin (first_alone e es h))) rest
     by_test false rest = rest
 
 pub kept_cleared : (q : Origin) (es : List Entry) (o : Origin) → kept_in (filter (is_of_other q) es) o ≡ cond (origin_eq o q) [] (kept_in es o)
@@ -121,7 +123,7 @@ kept_in_some (e ∷ es) o h = by_tests (holds_some e) (origin_eq o e.origin) ref
     by_tests : (w a : Bool) → holds_some e ≡ w → origin_eq o e.origin ≡ a → kept_in (filter holds_some es) o ≡ kept_in es o → kept_in (cond w (e ∷ filter holds_some es) (filter holds_some es)) o ≡ cond a e.alternatives (kept_in es o)
     by_tests true true some oe rest = rw oe refl
     by_tests true false some oe rest = rw oe rest
-    by_tests false true some oe rest = rest ∙ kept_of_none es o (ap (λ (x : Origin). is_among x (origins_of es)) (one_origin o e.origin oe) ∙ first_alone e es h) ∙ sym (none_there e.alternatives some)
+    by_tests false true some oe rest = rest ∙ kept_of_none es o (ap (λ (x : Origin). is_among x (origins_of es)) (true_origin o e.origin oe) ∙ first_alone e es h) ∙ sym (none_there e.alternatives some)
     by_tests false false some oe rest = rest
 
 -- an entry is put
@@ -154,25 +156,25 @@ origins_set (e ∷ es) (suc i) d entry within is = ap (λ os. e.origin ∷ os) (
 
 kept_end : (es : List Entry) (entry : Entry) (o : Origin) → is_among entry.origin (origins_of es) ≡ false → kept_in (es ++ entry ∷ []) o ≡ cond (origin_eq o entry.origin) entry.alternatives (kept_in es o)
 kept_end [] entry o none = refl
-kept_end (e ∷ es) entry o none = by_tests (origin_eq o e.origin) (origin_eq o entry.origin) refl refl (kept_end es entry o (not_right (origin_eq entry.origin e.origin) (is_among entry.origin (origins_of es)) none))
+kept_end (e ∷ es) entry o none = by_tests (origin_eq o e.origin) (origin_eq o entry.origin) refl refl (kept_end es entry o (second_of_neither (origin_eq entry.origin e.origin) (is_among entry.origin (origins_of es)) none))
   where
     by_tests : (a b : Bool) → origin_eq o e.origin ≡ a → origin_eq o entry.origin ≡ b → kept_in (es ++ entry ∷ []) o ≡ cond b entry.alternatives (kept_in es o) → cond a e.alternatives (kept_in (es ++ entry ∷ []) o) ≡ cond b entry.alternatives (cond a e.alternatives (kept_in es o))
     by_tests false b oe oq rest = rest
     by_tests true false oe oq rest = refl
-    by_tests true true oe oq rest = contradicts (origin_eq entry.origin e.origin) (sym (along o entry.origin e.origin oq) ∙ oe) (not_left (origin_eq entry.origin e.origin) (is_among entry.origin (origins_of es)) none)
+    by_tests true true oe oq rest = contradicts (origin_eq entry.origin e.origin) (sym (along o entry.origin e.origin oq) ∙ oe) (first_of_neither (origin_eq entry.origin e.origin) (is_among entry.origin (origins_of es)) none)
 
 among_end : (o : Origin) (es : List Entry) (entry : Entry) → is_among o (origins_of es) ≡ false → origin_eq o entry.origin ≡ false → is_among o (origins_of (es ++ entry ∷ [])) ≡ false
-among_end o [] entry none other = neither (origin_eq o entry.origin) false other refl
+among_end o [] entry none other = or_from (origin_eq o entry.origin) false other refl
 among_end o (e ∷ es) entry none other =
-    neither (origin_eq o e.origin) (is_among o (origins_of (es ++ entry ∷ []))) (not_left (origin_eq o e.origin) (is_among o (origins_of es)) none)
-    (among_end o es entry (not_right (origin_eq o e.origin) (is_among o (origins_of es)) none) other)
+    or_from (origin_eq o e.origin) (is_among o (origins_of (es ++ entry ∷ []))) (first_of_neither (origin_eq o e.origin) (is_among o (origins_of es)) none)
+    (among_end o es entry (second_of_neither (origin_eq o e.origin) (is_among o (origins_of es)) none) other)
 
 distinct_end : (es : List Entry) (entry : Entry) → are_distinct (origins_of es) ≡ true → is_among entry.origin (origins_of es) ≡ false → are_distinct (origins_of (es ++ entry ∷ [])) ≡ true
 distinct_end [] entry h none = refl
 distinct_end (e ∷ es) entry h none =
-    both (not (is_among e.origin (origins_of (es ++ entry ∷ [])))) (are_distinct (origins_of (es ++ entry ∷ [])))
-    (not_from (is_among e.origin (origins_of (es ++ entry ∷ []))) (among_end e.origin es entry (first_alone e es h) (turned_not entry.origin e.origin (not_left (origin_eq entry.origin e.origin) (is_among entry.origin (origins_of es)) none))))
-    (distinct_end es entry (rest_distinct e es h) (not_right (origin_eq entry.origin e.origin) (is_among entry.origin (origins_of es)) none))
+    and_from (not (is_among e.origin (origins_of (es ++ entry ∷ [])))) (are_distinct (origins_of (es ++ entry ∷ [])))
+    (not_from_false (is_among e.origin (origins_of (es ++ entry ∷ []))) (among_end e.origin es entry (first_alone e es h) (turned_not entry.origin e.origin (first_of_neither (origin_eq entry.origin e.origin) (is_among entry.origin (origins_of es)) none))))
+    (distinct_end es entry (rest_distinct e es h) (second_of_neither (origin_eq entry.origin e.origin) (is_among entry.origin (origins_of es)) none))
 
 below_not : (a b : ℕ) → nat_lt (1 + a) (suc b) ≡ false → nat_lt a b ≡ false
 below_not a b h = grind arith
@@ -206,7 +208,7 @@ pub distinct_put : (es : List Entry) (place : Option ℕ) (entry : Entry) → ar
 distinct_put es None entry h is = distinct_end es entry h (no_place es entry.origin (sym is))
 distinct_put es (Some i) entry h is =
     let at = position-Some (is_of entry.origin) es i entry (sym is) in
-    ap are_distinct (origins_set es i entry entry at.0 (one_origin entry.origin (get_or es i entry).origin at.1)) ∙ h
+    ap are_distinct (origins_set es i entry entry at.0 (true_origin entry.origin (get_or es i entry).origin at.1)) ∙ h
 
 -- the entry at an origin's place holds what is kept for it
 pub kept_at : (es : List Entry) (i : ℕ) (d : Entry) (o : Origin) → position (is_of o) es ≡ Some i → are_distinct (origins_of es) ≡ true → kept_in es o ≡ (get_or es i d).alternatives
@@ -218,5 +220,5 @@ kept_at es i d o is h = let at = position-Some (is_of o) es i d is in there es i
     there (e ∷ es) (suc i) d within is h = by_test (origin_eq o e.origin) refl (there es i d (omega arith) is (rest_distinct e es h))
       where
         by_test : (w : Bool) → origin_eq o e.origin ≡ w → kept_in es o ≡ (get_or es i d).alternatives → cond w e.alternatives (kept_in es o) ≡ (get_or es i d).alternatives
-        by_test true oe rest = contradicts (is_among o (origins_of es)) (among_at es i d o (omega arith) is) (ap (λ (x : Origin). is_among x (origins_of es)) (one_origin o e.origin oe) ∙ first_alone e es h)
+        by_test true oe rest = contradicts (is_among o (origins_of es)) (among_at es i d o (omega arith) is) (ap (λ (x : Origin). is_among x (origins_of es)) (true_origin o e.origin oe) ∙ first_alone e es h)
         by_test false oe rest = rest

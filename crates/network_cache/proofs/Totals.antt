@@ -12,22 +12,25 @@ use Rattle.network_cache.specs.Freshness.{is_fresh}
 use Rattle.network_cache.specs.Origins.{is_among, are_distinct}
 use Rattle.network_cache.specs.Entries.{origins_of, kept_in, fresh_in}
 use Rattle.network_cache.specs.Contents.{kept, live, IsTotal, HoldsFresh}
-use Rattle.network_cache.proofs.Lists.{contradicts, or_left, or_right, neither, and_left, and_right, both, from_not, not_from, fresh_later}
-use Rattle.network_cache.proofs.Origins.{one_origin, own_origin, along, along_right, other_than}
+use Rattle.network_cache.proofs.Lists.{fresh_later}
+use Rattle.network_cache.proofs.Origins.{along, along_right, other_than}
+use Rattle.alt_base.proofs.Booleans.{contradicts, first_of_both, second_of_both}
+use Rattle.std.proofs.lemmas.Bool.{or_left, or_right, or_from, and_from, not-true, not_from_false}
+use Rattle.origin_values.proofs.Equal.{true_origin, origin_self}
 
 -- sums over origins
 
 sum_same : (f g : Origin → ℕ) (os : List Origin) → ((o : Origin) → is_among o os ≡ true → f o ≡ g o) → sum_by f os ≡ sum_by g os
 sum_same f g [] h = refl
 sum_same f g (o ∷ os) h =
-    let first = h o (or_left (origin_eq o o) (is_among o os) (own_origin o)) in
+    let first = h o (or_left (origin_eq o o) (is_among o os) (origin_self o)) in
     let rest = sum_same f g os (λ q found. h q (or_right (origin_eq q o) (is_among q os) found)) in
     omega (arith, sum_by-cons f o os, sum_by-cons g o os, first, rest)
 
 sum_none : (f : Origin → ℕ) (os : List Origin) → ((o : Origin) → is_among o os ≡ true → f o ≡ 0) → sum_by f os ≡ 0
 sum_none f [] h = refl
 sum_none f (o ∷ os) h =
-    let first = h o (or_left (origin_eq o o) (is_among o os) (own_origin o)) in
+    let first = h o (or_left (origin_eq o o) (is_among o os) (origin_self o)) in
     let rest = sum_none f os (λ q found. h q (or_right (origin_eq q o) (is_among q os) found)) in
     omega (arith, sum_by-cons f o os, first, rest)
 
@@ -52,10 +55,10 @@ among_without q o (p ∷ ps) = by_tests (origin_eq o p) (origin_eq q p) (origin_
 
 distinct_without : (o : Origin) (os : List Origin) → are_distinct os ≡ true → are_distinct (without o os) ≡ true
 distinct_without o [] h = refl
-distinct_without o (p ∷ ps) h = by_test (origin_eq o p) (distinct_without o ps (and_right (not (is_among p ps)) (are_distinct ps) h))
+distinct_without o (p ∷ ps) h = by_test (origin_eq o p) (distinct_without o ps (second_of_both (not (is_among p ps)) (are_distinct ps) h))
   where
     alone : is_among p ps ≡ false
-    alone = from_not (is_among p ps) (and_left (not (is_among p ps)) (are_distinct ps) h)
+    alone = not-true (is_among p ps) (first_of_both (not (is_among p ps)) (are_distinct ps) h)
 
     fewer : (a b : Bool) → b ≡ false → (a && b) ≡ false
     fewer true b h = h
@@ -63,19 +66,19 @@ distinct_without o (p ∷ ps) h = by_test (origin_eq o p) (distinct_without o ps
 
     by_test : (a : Bool) → are_distinct (without o ps) ≡ true → are_distinct (cond (not a) (p ∷ without o ps) (without o ps)) ≡ true
     by_test true rest = rest
-    by_test false rest = both (not (is_among p (without o ps))) (are_distinct (without o ps)) (not_from (is_among p (without o ps)) (among_without p o ps ∙ fewer (not (origin_eq p o)) (is_among p ps) alone)) rest
+    by_test false rest = and_from (not (is_among p (without o ps))) (are_distinct (without o ps)) (not_from_false (is_among p (without o ps)) (among_without p o ps ∙ fewer (not (origin_eq p o)) (is_among p ps) alone)) rest
 
 sum_without : (f : Origin → ℕ) (o : Origin) (os : List Origin) → are_distinct os ≡ true → sum_by f os ≡ cond (is_among o os) (f o) 0 + sum_by f (without o os)
 sum_without f o [] h = refl
-sum_without f o (p ∷ ps) h = by_test (origin_eq o p) refl (sum_without f o ps (and_right (not (is_among p ps)) (are_distinct ps) h))
+sum_without f o (p ∷ ps) h = by_test (origin_eq o p) refl (sum_without f o ps (second_of_both (not (is_among p ps)) (are_distinct ps) h))
   where
     alone : is_among p ps ≡ false
-    alone = from_not (is_among p ps) (and_left (not (is_among p ps)) (are_distinct ps) h)
+    alone = not-true (is_among p ps) (first_of_both (not (is_among p ps)) (are_distinct ps) h)
 
     by_test : (a : Bool) → origin_eq o p ≡ a → sum_by f ps ≡ cond (is_among o ps) (f o) 0 + sum_by f (without o ps) → sum_by f (p ∷ ps) ≡ cond (a || is_among o ps) (f o) 0 + sum_by f (cond (not a) (p ∷ without o ps) (without o ps))
     by_test true op rest =
-        let same : f o ≡ f p = ap f (one_origin o p op) in
-        let none : cond (is_among o ps) (f o) 0 ≡ 0 = ap (λ w. cond w (f o) 0) (ap (λ (x : Origin). is_among x ps) (one_origin o p op) ∙ alone) in
+        let same : f o ≡ f p = ap f (true_origin o p op) in
+        let none : cond (is_among o ps) (f o) 0 ≡ 0 = ap (λ w. cond w (f o) 0) (ap (λ (x : Origin). is_among x ps) (true_origin o p op) ∙ alone) in
         omega (arith, sum_by-cons f p ps, same, none, rest)
     by_test false op rest = omega (arith, sum_by-cons f p ps, sum_by-cons f p (without o ps), rest)
 
@@ -84,16 +87,16 @@ one_sum : (f : Origin → ℕ) (os ps : List Origin) → are_distinct os ≡ tru
     → ((q : Origin) → is_among q os ≡ true → is_among q ps ≡ false → f q ≡ 0) → ((q : Origin) → is_among q ps ≡ true → is_among q os ≡ false → f q ≡ 0) → sum_by f os ≡ sum_by f ps
 one_sum f [] ps h k outside inside = sym (sum_none f ps (λ q found. inside q found refl))
 one_sum f (o ∷ os) ps h k outside inside =
-    let rest = one_sum f os (without o ps) (and_right (not (is_among o os)) (are_distinct os) h) (distinct_without o ps k) others_outside others_inside in
+    let rest = one_sum f os (without o ps) (second_of_both (not (is_among o os)) (are_distinct os) h) (distinct_without o ps k) others_outside others_inside in
     let here = first (is_among o ps) refl in
     omega (arith, sum_by-cons f o os, sum_without f o ps k, rest, here)
   where
     alone : is_among o os ≡ false
-    alone = from_not (is_among o os) (and_left (not (is_among o os)) (are_distinct os) h)
+    alone = not-true (is_among o os) (first_of_both (not (is_among o os)) (are_distinct os) h)
 
     first : (w : Bool) → is_among o ps ≡ w → cond (is_among o ps) (f o) 0 ≡ f o
     first true e = rw e refl
-    first false e = rw e (sym (outside o (or_left (origin_eq o o) (is_among o os) (own_origin o)) e))
+    first false e = rw e (sym (outside o (or_left (origin_eq o o) (is_among o os) (origin_self o)) e))
 
     others_outside : (q : Origin) → is_among q os ≡ true → is_among q (without o ps) ≡ false → f q ≡ 0
     others_outside q found none =
@@ -103,7 +106,7 @@ one_sum f (o ∷ os) ps h k outside inside =
     others_inside : (q : Origin) → is_among q (without o ps) ≡ true → is_among q os ≡ false → f q ≡ 0
     others_inside q found none =
         let parts : (not (origin_eq q o) && is_among q ps) ≡ true = sym (among_without q o ps) ∙ found in
-        inside q (and_right (not (origin_eq q o)) (is_among q ps) parts) (neither (origin_eq q o) (is_among q os) (from_not (origin_eq q o) (and_left (not (origin_eq q o)) (is_among q ps) parts)) none)
+        inside q (second_of_both (not (origin_eq q o)) (is_among q ps) parts) (or_from (origin_eq q o) (is_among q os) (not-true (origin_eq q o) (first_of_both (not (origin_eq q o)) (is_among q ps) parts)) none)
 
 nothing_live : (now : ℕ) (ks : List Kept) → ks ≡ [] → length (map (λ (k : Kept). k.alt) (filter (is_fresh now) ks)) ≡ 0
 nothing_live now ks h = rw h refl
@@ -147,15 +150,15 @@ fresh_of now es o = length (map (λ (k : Kept). k.alt) (filter (is_fresh now) (k
 pub fresh_sum : (now : ℕ) (es : List Entry) → are_distinct (origins_of es) ≡ true → fresh_in now es ≡ sum_by (λ o. length (map (λ (k : Kept). k.alt) (filter (is_fresh now) (kept_in es o)))) (origins_of es)
 fresh_sum now [] h = refl
 fresh_sum now (e ∷ es) h =
-    let rest = fresh_sum now es (and_right (not (is_among e.origin (origins_of es))) (are_distinct (origins_of es)) h) in
+    let rest = fresh_sum now es (second_of_both (not (is_among e.origin (origins_of es))) (are_distinct (origins_of es)) h) in
     let same = sum_same (fresh_of now es) (fresh_of now (e ∷ es)) (origins_of es) (λ o found. elsewhere o found) in
     omega (arith, sum_by-cons (fresh_of now (e ∷ es)) e.origin (origins_of es), rest, same, here)
   where
     here : fresh_of now (e ∷ es) e.origin ≡ length (filter (is_fresh now) e.alternatives)
-    here = rw (own_origin e.origin) (length-map (filter (is_fresh now) e.alternatives) (λ (k : Kept). k.alt))
+    here = rw (origin_self e.origin) (length-map (filter (is_fresh now) e.alternatives) (λ (k : Kept). k.alt))
 
     alone : is_among e.origin (origins_of es) ≡ false
-    alone = from_not (is_among e.origin (origins_of es)) (and_left (not (is_among e.origin (origins_of es))) (are_distinct (origins_of es)) h)
+    alone = not-true (is_among e.origin (origins_of es)) (first_of_both (not (is_among e.origin (origins_of es))) (are_distinct (origins_of es)) h)
 
     elsewhere : (o : Origin) → is_among o (origins_of es) ≡ true → fresh_of now es o ≡ fresh_of now (e ∷ es) o
     elsewhere o found = ap (λ w. length (map (λ (k : Kept). k.alt) (filter (is_fresh now) (cond w e.alternatives (kept_in es o))))) (sym (other_than e.origin o (origins_of es) alone found))

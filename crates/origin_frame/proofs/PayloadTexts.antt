@@ -1,14 +1,12 @@
 -- The payload that lists origins is read back.
-use Rattle.std.proofs.Common.{◌≡◌, ℕ, ◌+◌, ◌*◌, ◌/◌, ◌%◌, List, [], ◌∷◌, length, map, Ok, refl, arith, inl}
+use Rattle.std.proofs.Common.{◌≡◌, ◌/◌, ◌%◌, List, [], ◌∷◌, length, map, Ok, refl, inl}
 use Rattle.origin_values.specs.Written.{origin_text}
 use Rattle.origin_values.specs.declared.origin.Origin.{Origin}
 use Rattle.origin_frame.specs.PayloadGrammar.{AreEntries, AreListed, SpellsListed}
 use Rattle.origin_frame.specs.PayloadReading.{read_listed}
 use Rattle.origin_frame.specs.PayloadWritten.{payload_of, AreOrigins}
 use Rattle.origin_frame.proofs.Payloads.{listed_read}
-
-two_octets : (n : ℕ) → n ≡ n / 256 * 256 + n % 256
-two_octets n = omega arith
+use Rattle.alt_base.proofs.Numbers.{two_octets}
 
 entries_written : (origins : List Origin) → AreEntries (payload_of origins) (map origin_text origins)
 entries_written [] = refl

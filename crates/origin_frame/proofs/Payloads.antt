@@ -1,5 +1,5 @@
 -- The reading of payloads against their grammar.
-use Rattle.std.proofs.Common.{◌≡◌, ◌≢◌, ◌⊎◌, ℕ, zero, suc, ◌+◌, ◌*◌, bit_and, ◌≤◌, Bool, true, false, cond, nat_eq, nat_lt, List, [], ◌∷◌, ◌++◌, length, take, drop, Option, None, Some, Result, Ok, Err, IfOk, refl, ap, ap₂, sym, ◌∙◌, subst, arith, inl, inr}
+use Rattle.std.proofs.Common.{◌≡◌, ◌⊎◌, ℕ, zero, suc, ◌+◌, ◌*◌, bit_and, ◌≤◌, Bool, true, false, cond, nat_eq, nat_lt, List, [], ◌∷◌, ◌++◌, length, take, drop, Option, None, Some, Result, Ok, Err, IfOk, refl, ap, ap₂, sym, ◌∙◌, subst, arith, inl, inr}
 use Rattle.std.proofs.lemmas.List.{append_assoc, length-append, length-take-le, length-drop, take-append-drop, take_at, drop_at}
 use Rattle.alt_base.specs.declared.refusal.At.{At}
 use Rattle.alt_base.specs.declared.refusal.Refused.{Refused}
@@ -15,6 +15,7 @@ use Rattle.origin_frame.specs.PayloadWritten.{AreOrigins}
 use Rattle.origin_values.specs.AsciiReading.{ascii_origin}
 use Rattle.origin_values.proofs.AsciiOrigins.{ascii_spelled, ascii_read, ascii_none, none_ascii}
 use Rattle.alt_base.proofs.Numbers.{lt_true, lt_false, true_lt, false_lt}
+use Rattle.alt_base.proofs.Numbers.{eq_true, eq_false, true_eq, false_eq}
 
 -- what the reading of entries at a place says
 record EntriesAre (octets : List ℕ) (listed : Listed) : Type 0 where
@@ -137,25 +138,6 @@ past_read (entry ∷ entries) front rest (suc most) place room h past =
     ∙ ap (entry_onto (ascii_origin entry)) (past_read entries more rest most (place + (2 + (first.high * 256 + first.low))) (omega (arith, length-append more rest)) h.2 past)
     ∙ ap (λ p. refused p EntryPast) (omega (arith, first.long))
 
-zero_from_test : (n : ℕ) → nat_eq n 0 ≡ true → n ≡ 0
-zero_from_test n h = grind arith
-
-test_from_zero : (n : ℕ) → n ≡ 0 → nat_eq n 0 ≡ true
-test_from_zero n h = grind arith
-
-other_from_test : (n : ℕ) → nat_eq n 0 ≡ false → n ≢ 0
-other_from_test n h e = false_true (sym h ∙ test_from_zero n e)
-  where
-    false_true : false ≡ true → ⊥
-    false_true x = cc
-
-test_from_other : (n : ℕ) → n ≢ 0 → nat_eq n 0 ≡ false
-test_from_other n other = go (nat_eq n 0) refl
-  where
-    go : (t : Bool) → nat_eq n 0 ≡ t → t ≡ false
-    go false is = refl
-    go true is = absurd (other (zero_from_test n is))
-
 -- the grammar's words for an answer
 abbrev pub ListedSays : ℕ → ℕ → List ℕ → Answer → Type 0
 ListedSays stream flags payload (Ok listed) = SpellsListed stream flags payload listed
@@ -175,13 +157,13 @@ listed_says stream flags payload = go (nat_eq stream 0) (nat_eq (bit_and flags 1
   where
     go : (s t : Bool) → nat_eq stream 0 ≡ s → nat_eq (bit_and flags 15) 0 ≡ t
         → ListedSays stream flags payload (cond s (cond t (read_entries payload) (refused 0 Flags)) (refused 0 NotStreamZero))
-    go true true on none = entries_say stream flags payload (read_entries payload) (zero_from_test _ on) (zero_from_test _ none) (within_says (length payload) 0 payload (omega arith))
-    go true false on none = (zero_from_test _ on, other_from_test _ none, refl)
-    go false t on none = (other_from_test _ on, refl)
+    go true true on none = entries_say stream flags payload (read_entries payload) (true_eq _ 0 on) (true_eq _ 0 none) (within_says (length payload) 0 payload (omega arith))
+    go true false on none = (true_eq _ 0 on, false_eq _ 0 none, refl)
+    go false t on none = (false_eq _ 0 on, refl)
 
 both_tests : (stream flags : ℕ) (payload : List ℕ) → stream ≡ 0 → NoFlags flags → read_listed stream flags payload ≡ read_entries payload
 both_tests stream flags payload on none =
-    ap₂ (λ s t. cond s (cond t (read_entries payload) (refused 0 Flags)) (refused 0 NotStreamZero)) (test_from_zero stream on) (test_from_zero (bit_and flags 15) none)
+    ap₂ (λ s t. cond s (cond t (read_entries payload) (refused 0 Flags)) (refused 0 NotStreamZero)) (eq_true stream 0 on) (eq_true (bit_and flags 15) 0 none)
 
 pub listed_read : (stream flags : ℕ) (payload : List ℕ) (listed : Listed) → SpellsListed stream flags payload listed → read_listed stream flags payload ≡ Ok listed
 listed_read stream flags payload listed h =
@@ -190,10 +172,10 @@ listed_read stream flags payload listed h =
 
 pub listed_refused : (stream flags : ℕ) (payload : List ℕ) (place : ℕ) (reason : OriginFrameRefusal) → ListedRefusedAt stream flags payload place reason → read_listed stream flags payload ≡ refused place reason
 listed_refused stream flags payload place NotStreamZero h =
-    ap (λ s. cond s (cond (nat_eq (bit_and flags 15) 0) (read_entries payload) (refused 0 Flags)) (refused 0 NotStreamZero)) (test_from_other stream h.0)
+    ap (λ s. cond s (cond (nat_eq (bit_and flags 15) 0) (read_entries payload) (refused 0 Flags)) (refused 0 NotStreamZero)) (eq_false stream 0 h.0)
     ∙ ap (λ p. refused p NotStreamZero) (sym h.1)
 listed_refused stream flags payload place Flags h =
-    ap₂ (λ s t. cond s (cond t (read_entries payload) (refused 0 Flags)) (refused 0 NotStreamZero)) (test_from_zero stream h.0) (test_from_other (bit_and flags 15) h.1)
+    ap₂ (λ s t. cond s (cond t (read_entries payload) (refused 0 Flags)) (refused 0 NotStreamZero)) (eq_true stream 0 h.0) (eq_false (bit_and flags 15) 0 h.1)
     ∙ ap (λ p. refused p Flags) (sym h.2)
 listed_refused stream flags payload place EntryPast h =
     let s = h.2 in

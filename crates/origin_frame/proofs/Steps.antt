@@ -1,16 +1,13 @@
 -- Reading entries one by one.
 use Rattle.std.proofs.Common.{◌≡◌, ℕ, zero, suc, ◌+◌, ◌-◌, ◌*◌, ◌<◌, ◌≤◌, Bool, true, false, cond, nat_lt, List, [], ◌∷◌, ◌++◌, length, take, drop, Option, None, Some, Ok, Err, refl, ap, ap₂, sym, ◌∙◌, arith}
 use Rattle.std.proofs.lemmas.List.{append_assoc, append-nil, length-take-le, length-drop, drop-drop, drop_all, take_all}
-use Rattle.std.proofs.lemmas.Bool.Decides.{nat_tests}
 use Rattle.origin_values.specs.declared.origin.Origin.{Origin}
 use Rattle.origin_frame.specs.declared.listed.Listed.{Listed}
 use Rattle.origin_frame.specs.declared.refusal.OriginFrameRefusal.TheVariants.{EntryPast}
 use Rattle.origin_frame.specs.Entries.{entry_of, with_last}
 use Rattle.origin_values.specs.AsciiReading.{ascii_origin}
 use Rattle.origin_frame.specs.PayloadReading.{Answer, refused, nothing_listed, entry_onto, read_within, read_entries}
-
-false_lt : (a b : ℕ) → nat_lt a b ≡ false → b ≤ a
-false_lt a b h = grind (arith, nat_tests)
+use Rattle.alt_base.proofs.Numbers.{false_lt}
 
 -- what was listed before the entries that gave an answer
 abbrev pub listed_before : Listed → Answer → Answer

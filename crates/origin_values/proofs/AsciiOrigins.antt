@@ -1,5 +1,5 @@
 -- The reading of an origin's ASCII text.
-use Rattle.std.proofs.Common.{◌≡◌, ℕ, Bool, true, false, cond, nat_eq, List, [], ◌∷◌, Option, None, Some, Result, Ok, Err, refl, ap, sym, ◌∙◌, subst, arith}
+use Rattle.std.proofs.Common.{◌≡◌, ℕ, Bool, true, false, cond, nat_eq, List, Option, None, Some, Result, Ok, Err, refl, ap, sym, ◌∙◌, subst}
 use Rattle.std.specs.Cmp.Lexicographic.{pointwise, same_text}
 use Rattle.alt_base.specs.declared.refusal.At.{At}
 use Rattle.origin_values.specs.AsciiOrigin.{SpellsAscii, IsNoOrigin}
@@ -10,13 +10,7 @@ use Rattle.origin_values.specs.declared.origin.Origin.{Origin}
 use Rattle.origin_values.specs.declared.refusal.OriginRefusal.{OriginRefusal}
 use Rattle.origin_values.proofs.Origins.{origin_sound}
 use Rattle.origin_values.proofs.OriginTexts.{origin_valid, origin_read_back}
-
-each_same : (b : ℕ) → nat_eq b b ≡ true
-each_same b = grind arith
-
-same_itself : (a : List ℕ) → pointwise nat_eq a a ≡ true
-same_itself [] = refl
-same_itself (b ∷ bs) = rw (each_same b) (same_itself bs)
+use Rattle.alt_base.proofs.Lists.{text_self}
 
 written_spelled : (text : List ℕ) (origin other : Origin) → read_origin text ≡ Ok origin → cond (pointwise nat_eq (origin_text origin) text) (Some origin) None ≡ Some other → SpellsAscii text other
 written_spelled text origin other is h = go (pointwise nat_eq (origin_text origin) text) refl h
@@ -39,7 +33,7 @@ pub ascii_read : (text : List ℕ) (origin : Origin) → SpellsAscii text origin
 unfolding ascii_origin
 ascii_read text origin h =
     ap (if_written_as text) (ap read_origin h.spelled ∙ origin_read_back origin h.valid)
-    ∙ ap (λ t. cond t (Some origin) None) (ap (pointwise nat_eq (origin_text origin)) h.spelled ∙ same_itself (origin_text origin))
+    ∙ ap (λ t. cond t (Some origin) None) (ap (pointwise nat_eq (origin_text origin)) h.spelled ∙ text_self (origin_text origin))
 
 pub ascii_none : (text : List ℕ) → ascii_origin text ≡ None → IsNoOrigin text
 ascii_none text none origin h = clash (sym none ∙ ascii_read text origin h)

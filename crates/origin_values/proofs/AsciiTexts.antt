@@ -22,13 +22,12 @@ use Rattle.origin_values.specs.declared.origin.Origin.{Origin}
 use Rattle.origin_values.specs.declared.refusal.OriginRefusal.{OriginRefusal}
 use Rattle.origin_values.proofs.Origins.{origin_sound, origin_refusal}
 use Rattle.origin_values.proofs.OriginTexts.{origin_valid, origin_read_back, host_ascii}
-use Rattle.origin_values.proofs.Comparisons.{test_from_lt}
+use Rattle.alt_base.proofs.Lists.{text_true}
+use Rattle.alt_base.proofs.Numbers.{lt_true}
+use Rattle.alt_base.proofs.Variants.{same_ok}
 
 abbrev ok_of : Origin → Result Origin (At OriginRefusal)
 ok_of origin = Ok origin
-
-same_origin_value : (a b : Origin) → ok_of a ≡ ok_of b → a ≡ b
-same_origin_value a b e = cc
 
 -- what is written as the text is what is read
 ascii_read : (text : List ℕ) (origin : Origin) → SpellsAscii text origin → read_origin text ≡ Ok origin
@@ -38,7 +37,7 @@ pub ascii_spelled : (text : List ℕ) (origin : Origin) → SpellsAscii text ori
 ascii_spelled text origin h = origin_sound text origin (ascii_read text origin h)
 
 pub one_ascii : (text : List ℕ) (a b : Origin) → SpellsAscii text a → SpellsAscii text b → a ≡ b
-one_ascii text a b h k = same_origin_value a b (sym (ascii_read text a h) ∙ ascii_read text b k)
+one_ascii text a b h k = same_ok a b (sym (ascii_read text a h) ∙ ascii_read text b k)
 
 all_append : (xs ys : List ℕ) → list_all is_ascii xs ≡ true → list_all is_ascii ys ≡ true → list_all is_ascii (xs ++ ys) ≡ true
 all_append [] ys h k = k
@@ -55,7 +54,7 @@ digits_ascii : (ds : List ℕ) → AllDigits 10 ds → list_all is_ascii ds ≡ 
 digits_ascii [] h = refl
 digits_ascii (c ∷ ds) h =
     let range = digit_from_value c h.0 in
-    rw (test_from_lt c 128 (omega (arith, range.1))) (digits_ascii ds h.1)
+    rw (lt_true c 128 (omega (arith, range.1))) (digits_ascii ds h.1)
 
 scheme_ascii : (scheme : Scheme) → list_all is_ascii (scheme_text scheme) ≡ true
 scheme_ascii Http = refl
@@ -89,7 +88,7 @@ not_read text at refused origin h = clash (sym (ascii_read text origin h) ∙ re
 
 pub not_written : (text : List ℕ) (read : Origin) → read_origin text ≡ Ok read → (origin_text read ≡ text → ⊥) → (origin : Origin) → ¬ (SpellsAscii text origin)
 not_written text read reads other origin h =
-    let same : read ≡ origin = same_origin_value read origin (sym reads ∙ ascii_read text origin h) in
+    let same : read ≡ origin = same_ok read origin (sym reads ∙ ascii_read text origin h) in
     other (ap origin_text same ∙ sym h.spelled)
 
 pub ascii_ok : (text : List ℕ) (origin : Origin) → read_origin text ≡ Ok origin → origin_text origin ≡ text → SpellsAscii text origin
@@ -117,22 +116,12 @@ gives_at text r e place reason h is at_is = subst (λ x. Answers x (read_origin 
     err_of : Refused OriginRefusal → Result Origin (Refused OriginRefusal)
     err_of x = Err x
 
-same_bytes : (xs ys : List ℕ) → xs ≡ ys → pointwise nat_eq xs ys ≡ true
-same_bytes xs ys e = ap (λ zs. pointwise nat_eq xs zs) (sym e) ∙ itself xs
-  where
-    eq_itself : (a : ℕ) → nat_eq a a ≡ true
-    eq_itself a = grind arith
-
-    itself : (zs : List ℕ) → pointwise nat_eq zs zs ≡ true
-    itself [] = refl
-    itself (z ∷ zs) = rw (eq_itself z) (itself zs)
-
 -- the test of the text that was written
 pub written_is : (xs text : List ℕ) (origin : Origin) → pointwise nat_eq xs text ≡ true → xs ≡ origin_text origin → origin_text origin ≡ text
 written_is xs text origin test is = sym is ∙ same_text xs text (sym test)
 
 pub written_other : (xs text : List ℕ) (origin : Origin) → pointwise nat_eq xs text ≡ false → xs ≡ origin_text origin → origin_text origin ≡ text → ⊥
-written_other xs text origin test is same = clash (sym (same_bytes xs text (is ∙ same)) ∙ test)
+written_other xs text origin test is same = clash (sym (text_true xs text (is ∙ same)) ∙ test)
   where
     clash : true ≡ false → ⊥
     clash e = cc

@@ -11,14 +11,14 @@ use Rattle.origin_values.specs.declared.host.Host.TheVariants.{Name, V4, V6}
 use Rattle.origin_values.proofs.AddressTexts.{v4_written, v6_written, v4_valid, v6_valid}
 use Rattle.origin_values.proofs.Hosts.{read_host_complete}
 use Rattle.origin_values.proofs.Names.{read_name_sound, name_labels}
-use Rattle.origin_values.proofs.Comparisons.{and_from, and_false, lt_from_test, ge_from_test, test_from_ge, test_from_le, length_lower}
+use Rattle.origin_values.proofs.Lowercase.{length_lower}
+use Rattle.std.proofs.lemmas.Bool.{and_from, and_right}
+use Rattle.alt_base.proofs.Numbers.{true_lt, false_lt, lt_false, le_true, le_false}
+use Rattle.alt_base.proofs.Booleans.{third_of_four}
 
 -- what a byte is asked of keeps its answer in lower case
 abbrev SameTests : ℕ → ℕ → Type 0
 SameTests b c = (nat_eq c 46 ≡ nat_eq b 46) × (in_ranges host_name_class c ≡ in_ranges host_name_class b) × (is_ascii_digit c ≡ is_ascii_digit b) × (to_ascii_lowercase c ≡ c)
-
-not_le : (a b : ℕ) → b < a → nat_le a b ≡ false
-not_le a b h = grind arith
 
 not_eq : (a b : ℕ) → b < a → nat_eq a b ≡ false
 not_eq a b h = grind arith
@@ -30,24 +30,19 @@ last_in false false true d e h = refl
 last_in false false false true e h = refl
 last_in false false false false e h = rw h refl
 
-third_in : (a b c d : Bool) → c ≡ true → (a || (b || (c || d))) ≡ true
-third_in true b c d h = refl
-third_in false true c d h = refl
-third_in false false c d h = rw h refl
-
 -- an upper-case letter is in the class, and so is the lower-case one
 upper_in : (b : ℕ) → 65 ≤ b → b < 91 → in_ranges host_name_class b ≡ true
-upper_in b low high = third_in (nat_le 45 b && nat_le b 45) (nat_le 48 b && nat_le b 57) (nat_le 65 b && nat_le b 90) ((nat_le 95 b && nat_le b 95) || ((nat_le 97 b && nat_le b 122) || false)) (and_from (nat_le 65 b) (nat_le b 90) (test_from_le 65 b low) (test_from_le b 90 (omega arith)))
+upper_in b low high = third_of_four (nat_le 45 b && nat_le b 45) (nat_le 48 b && nat_le b 57) (nat_le 65 b && nat_le b 90) ((nat_le 95 b && nat_le b 95) || ((nat_le 97 b && nat_le b 122) || false)) (and_from (nat_le 65 b) (nat_le b 90) (le_true 65 b low) (le_true b 90 (omega arith)))
 
 lower_in : (b : ℕ) → 97 ≤ b → b < 123 → in_ranges host_name_class b ≡ true
-lower_in b low high = last_in (nat_le 45 b && nat_le b 45) (nat_le 48 b && nat_le b 57) (nat_le 65 b && nat_le b 90) (nat_le 95 b && nat_le b 95) (nat_le 97 b && nat_le b 122) (and_from (nat_le 97 b) (nat_le b 122) (test_from_le 97 b low) (test_from_le b 122 (omega arith)))
+lower_in b low high = last_in (nat_le 45 b && nat_le b 45) (nat_le 48 b && nat_le b 57) (nat_le 65 b && nat_le b 90) (nat_le 95 b && nat_le b 95) (nat_le 97 b && nat_le b 122) (and_from (nat_le 97 b) (nat_le b 122) (le_true 97 b low) (le_true b 122 (omega arith)))
 
 letter : (b : ℕ) → 65 ≤ b → b < 91 → SameTests b (b + 32)
 letter b low high = (
   not_eq (b + 32) 46 (omega arith) ∙ sym (not_eq b 46 (omega arith)),
   lower_in (b + 32) (omega arith) (omega arith) ∙ sym (upper_in b low high),
-  and_false (nat_le 48 (b + 32)) (nat_le (b + 32) 57) (not_le (b + 32) 57 (omega arith)) ∙ sym (and_false (nat_le 48 b) (nat_le b 57) (not_le b 57 (omega arith))),
-  rw (test_from_ge (b + 32) 65 (omega arith), test_from_ge (b + 32) 91 (omega arith)) refl,
+  and_right (nat_le 48 (b + 32)) (nat_le (b + 32) 57) (le_false (b + 32) 57 (omega arith)) ∙ sym (and_right (nat_le 48 b) (nat_le b 57) (le_false b 57 (omega arith))),
+  rw (lt_false (b + 32) 65 (omega arith), lt_false (b + 32) 91 (omega arith)) refl,
 )
 
 lower_tests : (b : ℕ) → SameTests b (to_ascii_lowercase b)
@@ -55,7 +50,7 @@ lower_tests b = go (nat_lt b 65) (nat_lt b 91) refl refl
   where
     go : (s t : Bool) → nat_lt b 65 ≡ s → nat_lt b 91 ≡ t → SameTests b (cond s b (cond t (b + 32) b))
     go true t is_s is_t = (refl, refl, refl, rw is_s refl)
-    go false true is_s is_t = letter b (ge_from_test b 65 is_s) (lt_from_test b 91 is_t)
+    go false true is_s is_t = letter b (false_lt b 65 is_s) (true_lt b 91 is_t)
     go false false is_s is_t = (refl, refl, refl, rw (is_s, is_t) refl)
 
 lower_twice : (text : List ℕ) → map to_ascii_lowercase (map to_ascii_lowercase text) ≡ map to_ascii_lowercase text
@@ -72,7 +67,7 @@ pub name_valid : (text name : List ℕ) → SpellsName text name → SpellsName 
 name_valid text name h =
     let lower = map to_ascii_lowercase text in
     let labels : are_labels 0 true lower ≡ true = lower_labels text 0 true ∙ name_labels text name h in
-    let short : nat_le (length lower) 253 ≡ true = test_from_le (length lower) 253 (omega (arith, length_lower text, h.short)) in
+    let short : nat_le (length lower) 253 ≡ true = le_true (length lower) 253 (omega (arith, length_lower text, h.short)) in
     let reads : read_name lower ≡ Some lower = rw (short, labels) (ap Some (lower_twice text)) in
     subst (λ n. SpellsName n n) (sym h.value) (read_name_sound lower lower reads)
 

@@ -9,7 +9,7 @@ use Rattle.origin_values.specs.HostGrammar.{SpellsV4, SpellsV6, SpellsName, Spel
 use Rattle.origin_values.specs.HostReading.{read_v4, read_v6, read_name, before_bracket, read_closed, read_host, first_of_two, host_or_refusal}
 use Rattle.origin_values.proofs.Addresses.{read_v4_complete, read_v4_sound, read_v6_complete, read_v6_sound}
 use Rattle.origin_values.proofs.Names.{read_name_complete, read_name_sound, name_labels, no_v4_and_name}
-use Rattle.origin_values.proofs.Comparisons.{same_from_test}
+use Rattle.alt_base.proofs.Numbers.{true_eq}
 
 -- the last byte decides
 pub before_bracket_push : (inner : List ℕ) (last : ℕ) → before_bracket (inner ++ last ∷ []) ≡ cond (nat_eq last 93) (Some inner) None
@@ -30,7 +30,7 @@ before_bracket_sound [] inner h = cc
 before_bracket_sound (b ∷ []) inner h = go (nat_eq b 93) refl h
   where
     go : (t : Bool) → nat_eq b 93 ≡ t → cond t (Some []) None ≡ Some inner → b ∷ [] ≡ inner ++ 93 ∷ []
-    go true is e = let none : [] ≡ inner = cc in subst (λ xs. b ∷ [] ≡ xs ++ 93 ∷ []) none (ap (λ c. c ∷ []) (same_from_test b 93 is))
+    go true is e = let none : [] ≡ inner = cc in subst (λ xs. b ∷ [] ≡ xs ++ 93 ∷ []) none (ap (λ c. c ∷ []) (true_eq b 93 is))
     go false is e = cc
 before_bracket_sound (b ∷ c ∷ bs) inner h = go (λ front. before_bracket_sound (c ∷ bs) front) (before_bracket (c ∷ bs)) refl h
   where
@@ -79,7 +79,7 @@ read_host_complete (b ∷ bs) (Name name) h = go (nat_eq b 91) (read_v4 (b ∷ b
   where
     go : (t : Bool) (four : Option (List ℕ)) → nat_eq b 91 ≡ t → read_v4 (b ∷ bs) ≡ four
         → cond t (option_map V6 (read_closed bs)) (first_of_two (option_map V4 four) (option_map Name (read_name (b ∷ bs)))) ≡ Some (Name name)
-    go true four is found = absurd (no_name_at_bracket bs name (subst (λ c. SpellsName (c ∷ bs) name) (same_from_test b 91 is) h))
+    go true four is found = absurd (no_name_at_bracket bs name (subst (λ c. SpellsName (c ∷ bs) name) (true_eq b 91 is) h))
     go false None is found = ap (option_map Name) (read_name_complete (b ∷ bs) name h)
     go false (Some bytes) is found = absurd (no_v4_and_name (b ∷ bs) bytes name (read_v4_sound (b ∷ bs) bytes found) h)
 read_host_complete [] (V4 bytes) h = absurd (no_v4_empty bytes h)
@@ -87,7 +87,7 @@ read_host_complete (b ∷ bs) (V4 bytes) h = go (nat_eq b 91) refl
   where
     go : (t : Bool) → nat_eq b 91 ≡ t
         → cond t (option_map V6 (read_closed bs)) (first_of_two (option_map V4 (read_v4 (b ∷ bs))) (option_map Name (read_name (b ∷ bs)))) ≡ Some (V4 bytes)
-    go true is = absurd (no_v4_at_bracket bs bytes (subst (λ c. SpellsV4 (c ∷ bs) bytes) (same_from_test b 91 is) h))
+    go true is = absurd (no_v4_at_bracket bs bytes (subst (λ c. SpellsV4 (c ∷ bs) bytes) (true_eq b 91 is) h))
     go false is = rw (read_v4_complete (b ∷ bs) bytes h) refl
 read_host_complete text (V6 bytes) h = ap read_host h.spelled ∙ ap (option_map V6) (read_closed_complete h.inner bytes h.address)
 
@@ -101,7 +101,7 @@ read_host_sound (b ∷ bs) host h = go (nat_eq b 91) (read_v4 (b ∷ bs)) (read_
     go true four name (Some bytes) is is_four is_name is_six e =
         let same : V6 bytes ≡ host = cc in
         let (inner, spelled, address) = read_closed_sound bs bytes is_six in
-        subst (SpellsHost (b ∷ bs)) same (record { inner = inner; spelled = ap (λ c. c ∷ bs) (same_from_test b 91 is) ∙ ap (λ xs. 91 ∷ xs) spelled; address = address })
+        subst (SpellsHost (b ∷ bs)) same (record { inner = inner; spelled = ap (λ c. c ∷ bs) (true_eq b 91 is) ∙ ap (λ xs. 91 ∷ xs) spelled; address = address })
     go true four name None is is_four is_name is_six e = cc
     go false (Some bytes) name six is is_four is_name is_six e = let same : V4 bytes ≡ host = cc in subst (SpellsHost (b ∷ bs)) same (read_v4_sound (b ∷ bs) bytes is_four)
     go false None (Some name) six is is_four is_name is_six e = let same : Name name ≡ host = cc in subst (SpellsHost (b ∷ bs)) same (read_name_sound (b ∷ bs) name is_name)
@@ -121,7 +121,7 @@ pub closed_no : (text inner : List ℕ) (last : ℕ) → text ≡ inner ++ last 
 closed_no text inner last spelled other = ap read_closed spelled ∙ ap (option_and_then read_v6) (before_bracket_push inner last) ∙ go (nat_eq last 93) refl
   where
     go : (t : Bool) → nat_eq last 93 ≡ t → option_and_then read_v6 (cond t (Some inner) None) ≡ None
-    go true is = absurd (other (same_from_test last 93 is))
+    go true is = absurd (other (true_eq last 93 is))
     go false is = refl
 
 same_host_value : (a b : Host) → Some a ≡ Some b → a ≡ b

@@ -3,8 +3,9 @@ pub mod Addresses
 pub mod AsciiOrigins
 pub mod AsciiTexts
 pub mod HostTexts
-pub mod Comparisons
+pub mod Equal
 pub mod Hosts
+pub mod Lowercase
 pub mod Names
 pub mod OriginTexts
 pub mod Origins

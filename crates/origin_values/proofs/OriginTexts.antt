@@ -23,15 +23,12 @@ use Rattle.origin_values.proofs.AddressTexts.{at_each, groups_of}
 use Rattle.origin_values.proofs.HostTexts.{host_valid, host_written}
 use Rattle.origin_values.proofs.Names.{name_labels}
 use Rattle.origin_values.proofs.Origins.{origin_complete}
-use Rattle.origin_values.proofs.Comparisons.{same_from_test, test_from_other, test_from_lt, le_from_test}
 use Rattle.alt_base.proofs.Conjunctions.{both}
-
-or_cases : (a b : Bool) → (a || b) ≡ true → (a ≡ true) ⊎ (b ≡ true)
-or_cases true b h = inl refl
-or_cases false b h = inr h
+use Rattle.alt_base.proofs.Numbers.{true_eq, eq_false, lt_true, true_le}
+use Rattle.std.proofs.lemmas.Bool.{or_cases}
 
 between : (b low high : ℕ) → is_between b (low, high) ≡ true → (low ≤ b) × (b ≤ high)
-between b low high h = let t = both (nat_le low b) (nat_le b high) h in (le_from_test low b t.0, le_from_test b high t.1)
+between b low high h = let t = both (nat_le low b) (nat_le b high) h in (true_le low b t.0, true_le b high t.1)
 
 -- a byte of a host's text, outside brackets
 record IsHostByte (b : ℕ) : Type 0 where
@@ -41,8 +38,8 @@ record IsHostByte (b : ℕ) : Type 0 where
 
 host_byte : (b : ℕ) → b < 128 → b ≢ 58 → b ≢ 47 → b ≢ 63 → b ≢ 35 → b ≢ 91 → IsHostByte b
 host_byte b small colon slash question hash bracket = record {
-  ends = rw (test_from_other b 58 colon, test_from_other b 47 slash, test_from_other b 63 question, test_from_other b 35 hash) refl;
-  ascii = test_from_lt b 128 small;
+  ends = rw (eq_false b 58 colon, eq_false b 47 slash, eq_false b 63 question, eq_false b 35 hash) refl;
+  ascii = lt_true b 128 small;
   no_bracket = bracket;
 }
 
@@ -78,7 +75,7 @@ label_bytes (b ∷ bs) count digits h = go (λ n d. label_bytes bs n d) (nat_eq 
   where
     go : ((n : ℕ) (d : Bool) → are_labels n d bs ≡ true → AllByRecursion IsHostByte bs) → (dot : Bool) → nat_eq b 46 ≡ dot
         → cond dot (nat_lt 0 count && are_labels 0 true bs) (nat_lt count 63 && (in_ranges host_name_class b && are_labels (count + 1) (digits && is_ascii_digit b) bs)) ≡ true → AllByRecursion IsHostByte (b ∷ bs)
-    go later true is e = (dot_byte b (same_from_test b 46 is), later 0 true (both (nat_lt 0 count) (are_labels 0 true bs) e).1)
+    go later true is e = (dot_byte b (true_eq b 46 is), later 0 true (both (nat_lt 0 count) (are_labels 0 true bs) e).1)
     go later false is e =
         let t = both (nat_lt count 63) (in_ranges host_name_class b && are_labels (count + 1) (digits && is_ascii_digit b) bs) e in
         let u = both (in_ranges host_name_class b) (are_labels (count + 1) (digits && is_ascii_digit b) bs) t.1 in
@@ -120,8 +117,8 @@ record IsGroupByte (b : ℕ) : Type 0 where
   ascii : is_ascii b ≡ true
 
 group_byte : (b : ℕ) → IsHexOrColon b → IsGroupByte b
-group_byte b (inl r) = record { close = test_from_other b 93 (λ x. omega (arith, r.1)); ascii = test_from_lt b 128 (omega (arith, r.1)) }
-group_byte b (inr r) = record { close = test_from_other b 93 (λ x. omega (arith, r.0)); ascii = test_from_lt b 128 (omega (arith, r.1)) }
+group_byte b (inl r) = record { close = eq_false b 93 (λ x. omega (arith, r.1)); ascii = lt_true b 128 (omega (arith, r.1)) }
+group_byte b (inr r) = record { close = eq_false b 93 (λ x. omega (arith, r.0)); ascii = lt_true b 128 (omega (arith, r.1)) }
 
 none_close : (xs : List ℕ) → AllByRecursion IsGroupByte xs → list_any (λ b. nat_eq b 93) xs ≡ false
 none_close [] h = refl
@@ -155,7 +152,7 @@ port_spelled : (scheme : Scheme) (port : ℕ) → 1 ≤ port → port < 2 ^ 16 �
 port_spelled scheme port some short = go (nat_eq port (default_port_of scheme)) refl
   where
     go : (t : Bool) → nat_eq port (default_port_of scheme) ≡ t → SpellsPort scheme (cond t [] (58 ∷ decimal port)) port
-    go true is = inl (inl refl, same_from_test port (default_port_of scheme) is)
+    go true is = inl (inl refl, true_eq port (default_port_of scheme) is)
     go false is = inr (IsPortText-decimal port short, some)
 
 scheme_spelled : (scheme : Scheme) → SpellsScheme (scheme_text scheme) scheme

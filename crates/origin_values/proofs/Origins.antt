@@ -8,16 +8,18 @@ use Rattle.origin_values.specs.declared.host.Host.{Host}
 use Rattle.origin_values.specs.declared.origin.Origin.{Origin}
 use Rattle.origin_values.specs.declared.refusal.OriginRefusal.{OriginRefusal}
 use Rattle.origin_values.specs.declared.refusal.OriginRefusal.TheVariants.{BadScheme, BadHost, BadPort, Trailing}
-use Rattle.origin_values.proofs.PortTexts.{take_front, drop_front, port_complete, port_refused, port_trailing, port_says, PortSays, PortRefused}
+use Rattle.origin_values.proofs.PortTexts.{port_complete, port_refused, port_trailing, port_says, PortSays, PortRefused}
 use Rattle.origin_values.proofs.Runs.{run_end, run_found, run_complete, run_sound}
 use Rattle.origin_values.proofs.Schemes.{scheme_reads, scheme_found, HasScheme, HasNoScheme}
+use Rattle.std.proofs.Math.Seq.{take-append_seam, drop-append_seam}
+use Rattle.alt_base.proofs.Variants.{same_ok}
 
 -- a host's run, and then what follows it
 rest_reads : (scheme : Scheme) (place : ℕ) (run tail : List ℕ) (host : Host) → IsRun run tail → SpellsRun run host → read_rest scheme place (run ++ tail) ≡ read_port scheme host (place + length run) tail
 rest_reads scheme place run tail host is_run of_host =
     ap (read_run_of scheme place (run ++ tail)) (run_end run tail is_run)
-    ∙ ap (host_then_port scheme place (run ++ tail) (length run)) (ap read_run (take_front run tail) ∙ run_complete run host of_host)
-    ∙ ap (read_port scheme host (place + length run)) (drop_front run tail)
+    ∙ ap (host_then_port scheme place (run ++ tail) (length run)) (ap read_run (take-append_seam run tail) ∙ run_complete run host of_host)
+    ∙ ap (read_port scheme host (place + length run)) (drop-append_seam run tail)
 
 pub origin_complete : (text : List ℕ) (origin : Origin) → SpellsOrigin text origin → read_origin text ≡ Ok origin
 origin_complete text origin s =
@@ -35,7 +37,7 @@ no_host_reads scheme place rest none = go (host_end rest) refl
     at end None is found = refl
     at end (Some host) is found =
         let h = run_found rest end is in
-        let same : take end rest ≡ h.run = ap (λ n. take n rest) h.count ∙ ap (take (length h.run)) h.spelled ∙ take_front h.run h.tail in
+        let same : take end rest ≡ h.run = ap (λ n. take n rest) h.count ∙ ap (take (length h.run)) h.spelled ∙ take-append_seam h.run h.tail in
         absurd (none h.run h.tail host h.spelled h.is_run (run_sound h.run host (ap read_run (sym same) ∙ found)))
 
     go : (o : Option ℕ) → host_end rest ≡ o → read_run_of scheme place rest o ≡ refusal_at place BadHost
@@ -137,12 +139,12 @@ rest_says text h = go (host_end h.rest) refl
     at : (end : ℕ) (o : Option Host) → host_end h.rest ≡ Some end → read_run (take end h.rest) ≡ o → OriginSays text (host_then_port h.scheme (length h.letters) h.rest end o)
     at end None is found = bad_host λ run tail host spelled is_run of_host.
         let count : end ≡ length run = some_same end (length run) (sym is ∙ ap host_end spelled ∙ run_end run tail is_run) in
-        let same : take end h.rest ≡ run = ap (λ n. take n h.rest) count ∙ ap (take (length run)) spelled ∙ take_front run tail in
+        let same : take end h.rest ≡ run = ap (λ n. take n h.rest) count ∙ ap (take (length run)) spelled ∙ take-append_seam run tail in
         none_some host (sym found ∙ ap read_run same ∙ run_complete run host of_host)
     at end (Some host) is found =
         let r = run_found h.rest end is in
-        let same : take end h.rest ≡ r.run = ap (λ n. take n h.rest) r.count ∙ ap (take (length r.run)) r.spelled ∙ take_front r.run r.tail in
-        let left : drop end h.rest ≡ r.tail = ap (λ n. drop n h.rest) r.count ∙ ap (drop (length r.run)) r.spelled ∙ drop_front r.run r.tail in
+        let same : take end h.rest ≡ r.run = ap (λ n. take n h.rest) r.count ∙ ap (take (length r.run)) r.spelled ∙ take-append_seam r.run r.tail in
+        let left : drop end h.rest ≡ r.tail = ap (λ n. drop n h.rest) r.count ∙ ap (drop (length r.run)) r.spelled ∙ drop-append_seam r.run r.tail in
         let parts : Parts text = record {
           letters = h.letters;
           run = r.run;
@@ -182,9 +184,6 @@ either text (Err at) h = inr (at.place, at.reason, h)
 abbrev ok_of : Origin → Result Origin (At OriginRefusal)
 ok_of origin = Ok origin
 
-same_origin_value : (a b : Origin) → ok_of a ≡ ok_of b → a ≡ b
-same_origin_value a b e = cc
-
 same_refusal : (p q : ℕ) (r s : OriginRefusal) → refusal_at p r ≡ refusal_at q s → (p ≡ q) × (r ≡ s)
 same_refusal p q r s e =
     let h : at p r ≡ at q s = err_same (at p r) (at q s) e in (ap (λ (x : At OriginRefusal). x.place) h, ap (λ (x : At OriginRefusal). x.reason) h)
@@ -201,7 +200,7 @@ ok_err origin p r e = cc
 pub one_origin_of : (text : List ℕ) → OneOrigin text
 one_origin_of text = record {
   some = either text (read_origin text) (origin_says text);
-  one_origin = λ a b h k. same_origin_value a b (sym (origin_complete text a h) ∙ origin_complete text b k);
+  one_origin = λ a b h k. same_ok a b (sym (origin_complete text a h) ∙ origin_complete text b k);
   one_refusal = λ p q r s h k. same_refusal p q r s (sym (origin_refused text p r h) ∙ origin_refused text q s k);
   not_both = λ origin place reason h k. ok_err origin place reason (sym (origin_complete text origin h) ∙ origin_refused text place reason k);
 }

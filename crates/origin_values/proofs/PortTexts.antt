@@ -1,8 +1,8 @@
 -- What follows the host in an origin's text, against the grammar.
-use Rattle.std.proofs.Common.{◌≡◌, ◌⊎◌, ℕ, suc, ◌+◌, ◌^◌, ◌<◌, ◌≤◌, Bool, true, false, nat_eq, nat_lt, List, [], ◌∷◌, ◌++◌, length, take, drop, Some, None, Result, Ok, Err, refl, ap, sym, ◌∙◌, subst, arith, inl, inr, append-nil}
+use Rattle.std.proofs.Common.{add-one, ◌≡◌, ◌⊎◌, ℕ, suc, ◌+◌, ◌^◌, ◌<◌, ◌≤◌, Bool, true, false, nat_eq, nat_lt, List, [], ◌∷◌, ◌++◌, length, Some, None, Result, Ok, Err, refl, ap, sym, ◌∙◌, subst, arith, inl, inr, append-nil}
 use Rattle.std.specs.List.{list_all}
 use Rattle.std.specs.Char.{is_ascii_digit}
-use Rattle.std.specs.Str.Parse.{IsNumeral, AllDigits, digits_value}
+use Rattle.std.specs.Str.Parse.{IsNumeral, digits_value}
 use Rattle.alt_base.specs.declared.refusal.At.{At}
 use Rattle.origin_values.specs.DefaultPort.{default_port_of}
 use Rattle.origin_values.specs.OriginGrammar.{SpellsPort, NoDigit, IsLeft}
@@ -12,45 +12,29 @@ use Rattle.origin_values.specs.declared.host.Host.{Host}
 use Rattle.origin_values.specs.declared.origin.Origin.{Origin}
 use Rattle.origin_values.specs.declared.refusal.OriginRefusal.{OriginRefusal}
 use Rattle.origin_values.specs.declared.refusal.OriginRefusal.TheVariants.{BadScheme, BadHost, BadPort, Trailing}
-use Rattle.origin_values.proofs.Names.{digits_pass}
-use Rattle.origin_values.proofs.Ports.{digit_code, value_of_digit}
-use Rattle.origin_values.proofs.Comparisons.{and_false, same_from_test, other_from_test, test_from_other, lt_from_test, ge_from_test, test_from_lt, test_from_ge}
 use Rattle.alt_base.proofs.Conjunctions.{both}
-
-plus_one : (n : ℕ) → n + 1 ≡ suc n
-plus_one n = omega arith
-
-digits_are : (ds : List ℕ) → list_all is_ascii_digit ds ≡ true → AllDigits 10 ds
-digits_are [] h = tt
-digits_are (c ∷ ds) h =
-    let t = both (is_ascii_digit c) (list_all is_ascii_digit ds) h in
-    (omega (arith, value_of_digit c t.0, digit_code c t.0), digits_are ds t.1)
+use Rattle.std.proofs.lemmas.Bool.{and_right}
+use Rattle.alt_base.proofs.Numbers.{true_eq, false_eq, eq_false, true_lt, false_lt, lt_true, lt_false}
+use Rattle.alt_base.proofs.Digits.{digits_all, all_digits}
+use Rattle.std.proofs.Math.Seq.{take-append_seam, drop-append_seam}
 
 count_digits : (digits rest : List ℕ) → list_all is_ascii_digit digits ≡ true → NoDigit rest → digits_before (digits ++ rest) ≡ length digits
 count_digits [] [] h none = refl
 count_digits [] (b ∷ bs) h none = rw none refl
 count_digits (c ∷ digits) rest h none =
     let t = both (is_ascii_digit c) (list_all is_ascii_digit digits) h in
-    rw t.0 (ap (λ n. n + 1) (count_digits digits rest t.1 none) ∙ plus_one (length digits))
-
-pub take_front : (front rest : List ℕ) → take (length front) (front ++ rest) ≡ front
-take_front [] rest = refl
-take_front (b ∷ front) rest = ap (λ xs. b ∷ xs) (take_front front rest)
-
-pub drop_front : (front rest : List ℕ) → drop (length front) (front ++ rest) ≡ rest
-drop_front [] rest = refl
-drop_front (b ∷ front) rest = drop_front front rest
+    rw t.0 (ap (λ n. n + 1) (count_digits digits rest t.1 none) ∙ add-one (length digits))
 
 not_zero : (n : ℕ) → 0 < n → nat_eq n 0 ≡ false
 not_zero n h = grind arith
 
 pub port_good : (digits : List ℕ) (port : ℕ) → digits_value 10 digits ≡ port → 1 ≤ port → port < 2 ^ 16 → port_of digits ≡ Some port
 port_good digits port is some short =
-    rw (test_from_lt 0 (digits_value 10 digits) (omega (arith, is)), test_from_lt (digits_value 10 digits) 65536 (omega (arith, is))) (ap Some is)
+    rw (lt_true 0 (digits_value 10 digits) (omega (arith, is)), lt_true (digits_value 10 digits) 65536 (omega (arith, is))) (ap Some is)
 
 pub port_bad : (digits : List ℕ) → (digits_value 10 digits ≡ 0) ⊎ (65535 < digits_value 10 digits) → port_of digits ≡ None
-port_bad digits (inl zero_is) = rw (test_from_ge 0 (digits_value 10 digits) (omega (arith, zero_is))) refl
-port_bad digits (inr large) = rw (and_false (nat_lt 0 (digits_value 10 digits)) (nat_lt (digits_value 10 digits) 65536) (test_from_ge (digits_value 10 digits) 65536 (omega (arith, large)))) refl
+port_bad digits (inl zero_is) = rw (lt_false 0 (digits_value 10 digits) (omega (arith, zero_is))) refl
+port_bad digits (inr large) = rw (and_right (nat_lt 0 (digits_value 10 digits)) (nat_lt (digits_value 10 digits) 65536) (lt_false (digits_value 10 digits) 65536 (omega (arith, large)))) refl
 
 module _ (scheme : Scheme) (host : Host) where
   -- an origin of this scheme and host
@@ -65,15 +49,15 @@ module _ (scheme : Scheme) (host : Host) where
   colon_digits : (place : ℕ) (digits rest : List ℕ) → IsNumeral 10 digits → NoDigit rest
       → read_port scheme host place (58 ∷ (digits ++ rest)) ≡ port_then_end scheme host (place + 1) (length digits) (digits ++ rest) (port_of digits)
   colon_digits place digits rest numeral none =
-      ap (λ n. read_digits scheme host (place + 1) n (digits ++ rest)) (count_digits digits rest (digits_pass digits numeral.1) none)
-      ∙ rw (not_zero (length digits) numeral.0) (ap (λ ds. port_then_end scheme host (place + 1) (length digits) (digits ++ rest) (port_of ds)) (take_front digits rest))
+      ap (λ n. read_digits scheme host (place + 1) n (digits ++ rest)) (count_digits digits rest (digits_all digits numeral.1) none)
+      ∙ rw (not_zero (length digits) numeral.0) (ap (λ ds. port_then_end scheme host (place + 1) (length digits) (digits ++ rest) (port_of ds)) (take-append_seam digits rest))
 
   colon_port : (place : ℕ) (digits rest : List ℕ) (port : ℕ) → IsNumeral 10 digits → NoDigit rest → digits_value 10 digits ≡ port → 1 ≤ port → port < 2 ^ 16
       → read_port scheme host place (58 ∷ (digits ++ rest)) ≡ at_end (with_port port) (place + 1 + length digits) rest
   colon_port place digits rest port numeral none is some short =
       colon_digits place digits rest numeral none
       ∙ ap (port_then_end scheme host (place + 1) (length digits) (digits ++ rest)) (port_good digits port is some short)
-      ∙ ap (at_end (with_port port) (place + 1 + length digits)) (drop_front digits rest)
+      ∙ ap (at_end (with_port port) (place + 1 + length digits)) (drop-append_seam digits rest)
 
   pub port_refused : (place : ℕ) (digits rest : List ℕ) → IsNumeral 10 digits → NoDigit rest → (digits_value 10 digits ≡ 0) ⊎ (65535 < digits_value 10 digits)
       → read_port scheme host place (58 ∷ (digits ++ rest)) ≡ refusal_at (place + 1) BadPort
@@ -100,7 +84,7 @@ module _ (scheme : Scheme) (host : Host) where
 
   nothing_read : (place : ℕ) (rest : List ℕ) → IsLeft [] rest → read_port scheme host place rest ≡ refusal_at place Trailing
   nothing_read place [] h = absurd h
-  nothing_read place (b ∷ bs) h = rw (test_from_other b 58 h) refl
+  nothing_read place (b ∷ bs) h = rw (eq_false b 58 h) refl
 
   pub port_trailing : (place : ℕ) (port rest : List ℕ) (number : ℕ) → SpellsPort scheme port number → IsLeft port rest
       → read_port scheme host place (port ++ rest) ≡ refusal_at (place + length port) Trailing
@@ -172,9 +156,9 @@ module _ (scheme : Scheme) (host : Host) where
   value_cases v = go (nat_lt 0 v) (nat_lt v 65536) refl refl
     where
       go : (s t : Bool) → nat_lt 0 v ≡ s → nat_lt v 65536 ≡ t → ((1 ≤ v) × (v < 2 ^ 16)) ⊎ ((v ≡ 0) ⊎ (65535 < v))
-      go false t is_s is_t = inr (inl (omega (arith, ge_from_test 0 v is_s)))
-      go true false is_s is_t = inr (inr (omega (arith, ge_from_test v 65536 is_t)))
-      go true true is_s is_t = inl (omega (arith, lt_from_test 0 v is_s), omega (arith, lt_from_test v 65536 is_t))
+      go false t is_s is_t = inr (inl (omega (arith, false_lt 0 v is_s)))
+      go true false is_s is_t = inr (inr (omega (arith, false_lt v 65536 is_t)))
+      go true true is_s is_t = inl (omega (arith, true_lt 0 v is_s), omega (arith, true_lt v 65536 is_t))
 
   colon_says : (place : ℕ) (digits rest : List ℕ) → list_all is_ascii_digit digits ≡ true → NoDigit rest → PortSays place (58 ∷ (digits ++ rest)) (read_port scheme host place (58 ∷ (digits ++ rest)))
   colon_says place [] rest allowed none =
@@ -182,7 +166,7 @@ module _ (scheme : Scheme) (host : Host) where
   colon_says place (c ∷ cs) rest allowed none = go (value_cases (digits_value 10 (c ∷ cs)))
     where
       numeral : IsNumeral 10 (c ∷ cs)
-      numeral = (omega arith, digits_are (c ∷ cs) allowed)
+      numeral = (omega arith, all_digits (c ∷ cs) allowed)
 
       moved : (n m : ℕ) → n + 1 + m ≡ n + suc m
       moved n m = omega arith
@@ -209,5 +193,5 @@ module _ (scheme : Scheme) (host : Host) where
       plus_none n = omega arith
 
       go : (t : Bool) → nat_eq b 58 ≡ t → PortSays place (b ∷ bs) (read_port scheme host place (b ∷ bs))
-      go true is = subst (λ c. PortSays place (c ∷ bs) (read_port scheme host place (c ∷ bs))) (sym (same_from_test b 58 is)) (at_colon (digits_split bs))
-      go false is = rw is (record { port = []; rest = b ∷ bs; number = default_port_of scheme; spelled = refl; of_port = inl (inl refl, refl); left = other_from_test b 58 is; is_at = plus_none place })
+      go true is = subst (λ c. PortSays place (c ∷ bs) (read_port scheme host place (c ∷ bs))) (sym (true_eq b 58 is)) (at_colon (digits_split bs))
+      go false is = rw is (record { port = []; rest = b ∷ bs; number = default_port_of scheme; spelled = refl; of_port = inl (inl refl, refl); left = false_eq b 58 is; is_at = plus_none place })

@@ -1,27 +1,13 @@
 -- The digits of a port.
-use Rattle.std.proofs.Common.{◌≡◌, ◌⊎◌, ℕ, ◌+◌, ◌-◌, ◌*◌, ◌<◌, ◌≤◌, Bool, true, false, cond, not, nat_le, min, List, [], ◌∷◌, length, take, drop, get_or, refl, ap, sym, ◌∙◌, subst, arith, inl, inr, add-one}
+use Rattle.std.proofs.Common.{◌≡◌, ◌⊎◌, ℕ, ◌+◌, ◌-◌, ◌*◌, ◌<◌, ◌≤◌, Bool, true, false, cond, not, min, List, [], ◌∷◌, length, take, drop, get_or, refl, ap, sym, ◌∙◌, subst, arith, inl, inr, add-one}
 use Rattle.std.proofs.lemmas.Bool.{cases_lt}
 use Rattle.std.proofs.Math.Seq.{drop-cons}
 use Rattle.std.specs.List.{list_all}
 use Rattle.std.specs.Char.{is_ascii_digit, digit_value}
 use Rattle.std.specs.Str.Parse.{digits_value_after}
 use Rattle.origin_values.specs.OriginReading.{digits_before}
-use Rattle.origin_values.proofs.Comparisons.{test_from_lt, test_from_ge, le_from_test}
 use Rattle.alt_base.proofs.Conjunctions.{both}
-
--- a digit's code and value
-pub digit_code : (b : ℕ) → is_ascii_digit b ≡ true → (48 ≤ b) × (b ≤ 57)
-digit_code b h = let t = both (nat_le 48 b) (nat_le b 57) h in (le_from_test 48 b t.0, le_from_test b 57 t.1)
-
-pub value_of_digit : (b : ℕ) → is_ascii_digit b ≡ true → digit_value b ≡ b - 48
-value_of_digit b h =
-    let code = digit_code b h in
-    rw (test_from_ge b 48 code.0, test_from_lt b 58 (omega (arith, code.1))) refl
-
--- more digits only make the value larger
-value_grows : (ds : List ℕ) (n : ℕ) → n ≤ digits_value_after 10 n ds
-value_grows [] n = omega arith
-value_grows (c ∷ cs) n = omega (arith, value_grows cs (n * 10 + digit_value c))
+use Rattle.alt_base.proofs.Digits.{value_of_digit, value_grows}
 
 -- a value above the bound may stand at it
 capped : (n : ℕ) (ds : List ℕ) → min 65536 (digits_value_after 10 (min n 65536) ds) ≡ min 65536 (digits_value_after 10 n ds)

@@ -1,5 +1,5 @@
 -- The bytes of a host in an origin's text.
-use Rattle.std.proofs.Common.{◌≡◌, ℕ, suc, ◌+◌, Bool, true, false, cond, ◌||◌, nat_eq, List, [], ◌∷◌, ◌++◌, length, Option, Some, None, option_map, refl, ap, sym, ◌∙◌, subst, arith, inl, inr, append_assoc, length-append}
+use Rattle.std.proofs.Common.{add-one, ◌≡◌, ℕ, ◌+◌, Bool, true, false, cond, nat_eq, List, [], ◌∷◌, ◌++◌, length, Option, Some, None, option_map, refl, ap, sym, ◌∙◌, subst, arith, inl, inr, append_assoc, length-append}
 use Rattle.std.specs.List.{list_all, list_any}
 use Rattle.std.specs.Char.{is_ascii}
 use Rattle.idna.specs.Uts46.{domain_to_ascii}
@@ -9,27 +9,21 @@ use Rattle.origin_values.specs.OriginGrammar.{ends_host, IsRun, FollowsHost, Beg
 use Rattle.origin_values.specs.OriginReading.{count_before, bracket_end, host_end, read_mapped, read_run}
 use Rattle.origin_values.specs.declared.host.Host.{Host}
 use Rattle.origin_values.proofs.Hosts.{read_host_sound, read_host_complete}
-use Rattle.origin_values.proofs.Comparisons.{same_from_test, test_from_other}
-
-neither : (a b : Bool) → (a || b) ≡ false → (a ≡ false) × (b ≡ false)
-neither true b h = cc
-neither false b h = (refl, h)
-
-plus_zero : (n : ℕ) → n + 1 ≡ suc n
-plus_zero n = omega arith
+use Rattle.alt_base.proofs.Numbers.{true_eq, eq_false}
+use Rattle.std.proofs.lemmas.Bool.{or_parts}
 
 count_run : (run tail : List ℕ) → list_any ends_host run ≡ false → FollowsHost tail → count_before ends_host (run ++ tail) ≡ length run
 count_run [] [] inside follows = refl
 count_run [] (b ∷ bs) inside follows = rw follows refl
 count_run (b ∷ run) tail inside follows =
-    let t = neither (ends_host b) (list_any ends_host run) inside in
-    rw t.0 (ap (λ n. n + 1) (count_run run tail t.1 follows) ∙ plus_zero (length run))
+    let t = or_parts (ends_host b) (list_any ends_host run) inside in
+    rw t.0 (ap (λ n. n + 1) (count_run run tail t.1 follows) ∙ add-one (length run))
 
 bracket_run : (inner tail : List ℕ) → list_any (λ b. nat_eq b 93) inner ≡ false → bracket_end (inner ++ 93 ∷ tail) ≡ Some (length inner + 1)
 bracket_run [] tail first = refl
 bracket_run (b ∷ inner) tail first =
-    let t = neither (nat_eq b 93) (list_any (λ c. nat_eq c 93) inner) first in
-    rw t.0 (ap (option_map (λ n. n + 1)) (bracket_run inner tail t.1) ∙ ap (λ n. Some (n + 1)) (plus_zero (length inner)))
+    let t = or_parts (nat_eq b 93) (list_any (λ c. nat_eq c 93) inner) first in
+    rw t.0 (ap (option_map (λ n. n + 1)) (bracket_run inner tail t.1) ∙ ap (λ n. Some (n + 1)) (add-one (length inner)))
 
 -- the run's length is what the reading counts
 pub run_end : (run tail : List ℕ) → IsRun run tail → host_end (run ++ tail) ≡ Some (length run)
@@ -43,12 +37,12 @@ run_end [] [] (inr h) = refl
 run_end [] (b ∷ bs) (inr h) = go (nat_eq b 91) refl
   where
     go : (t : Bool) → nat_eq b 91 ≡ t → cond t (option_map (λ n. n + 1) (bracket_end bs)) (Some (count_before ends_host (b ∷ bs))) ≡ Some 0
-    go true is = absurd (clash (subst (λ c. ends_host c ≡ true) (same_from_test b 91 is) h.longest))
+    go true is = absurd (clash (subst (λ c. ends_host c ≡ true) (true_eq b 91 is) h.longest))
       where
         clash : false ≡ true → ⊥
         clash e = cc
     go false is = ap Some (count_run [] (b ∷ bs) h.inside h.longest)
-run_end (b ∷ run) tail (inr h) = rw (test_from_other b 91 h.no_bracket) (ap Some (count_run (b ∷ run) tail h.inside h.longest))
+run_end (b ∷ run) tail (inr h) = rw (eq_false b 91 h.no_bracket) (ap Some (count_run (b ∷ run) tail h.inside h.longest))
 
 -- the front of a text, by what the reading counts
 pub record HasRun (rest : List ℕ) (end : ℕ) : Type 0 where
@@ -73,7 +67,7 @@ closed_found [] end h = cc
 closed_found (b ∷ bs) end h = go (λ n. closed_found bs n) (nat_eq b 93) (bracket_end bs) refl refl h
   where
     go : ((n : ℕ) → bracket_end bs ≡ Some n → Closed bs n) → (t : Bool) (o : Option ℕ) → nat_eq b 93 ≡ t → bracket_end bs ≡ o → cond t (Some 1) (option_map (λ n. n + 1) o) ≡ Some end → Closed (b ∷ bs) end
-    go later true o is found e = record { inner = []; tail = bs; spelled = ap (λ c. c ∷ bs) (same_from_test b 93 is); first = refl; count = some_same 1 end e }
+    go later true o is found e = record { inner = []; tail = bs; spelled = ap (λ c. c ∷ bs) (true_eq b 93 is); first = refl; count = some_same 1 end e }
     go later false None is found e = cc
     go later false (Some n) is found e =
         let rest = later n found in
@@ -126,7 +120,7 @@ run_found (b ∷ bs) end h = go (nat_eq b 91) (bracket_end bs) refl refl h
         record {
           run = 91 ∷ (closed.inner ++ 93 ∷ []);
           tail = closed.tail;
-          spelled = ap (λ c. c ∷ bs) (same_from_test b 91 is) ∙ ap (λ xs. 91 ∷ xs) (closed.spelled ∙ sym (append_assoc closed.inner (93 ∷ []) closed.tail));
+          spelled = ap (λ c. c ∷ bs) (true_eq b 91 is) ∙ ap (λ xs. 91 ∷ xs) (closed.spelled ∙ sym (append_assoc closed.inner (93 ∷ []) closed.tail));
           is_run = inl (record { inner = closed.inner; spelled = refl; first = closed.first });
           count = some_same (n + 1) end e ∙ omega (arith, closed.count, length-append closed.inner (93 ∷ []));
         }

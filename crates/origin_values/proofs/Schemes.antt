@@ -6,8 +6,10 @@ use Rattle.origin_values.specs.OriginReading.{begins, read_rest, read_origin, re
 use Rattle.origin_values.specs.declared.scheme.Scheme.{Scheme}
 use Rattle.origin_values.specs.declared.scheme.Scheme.TheVariants.{Http, Https}
 use Rattle.origin_values.specs.declared.refusal.OriginRefusal.TheVariants.{BadScheme}
-use Rattle.origin_values.proofs.Comparisons.{same_from_test, length_lower}
+use Rattle.origin_values.proofs.Lowercase.{length_lower}
 use Rattle.alt_base.proofs.Conjunctions.{both}
+use Rattle.alt_base.proofs.Numbers.{true_eq}
+use Rattle.alt_base.proofs.Booleans.{contradicts}
 
 -- whether a list begins with another
 abbrev starts : List ℕ → List ℕ → Bool
@@ -25,7 +27,7 @@ begins_sound [] text h = refl
 begins_sound (c ∷ front) [] h = cc
 begins_sound (c ∷ front) (b ∷ bs) h =
     let t = both (nat_eq (to_ascii_lowercase b) c) (begins front bs) h in
-    ap₂ (λ x xs. x ∷ xs) (same_from_test (to_ascii_lowercase b) c t.0) (begins_sound front bs t.1)
+    ap₂ (λ x xs. x ∷ xs) (true_eq (to_ascii_lowercase b) c t.0) (begins_sound front bs t.1)
 
 drop_front : (front rest : List ℕ) (n : ℕ) → length front ≡ n → drop n (front ++ rest) ≡ rest
 drop_front [] rest n is = ap (λ m. drop m rest) (sym is)
@@ -62,20 +64,14 @@ pub record HasNoScheme (text : List ℕ) : Type 0 where
   pub none : (letters rest : List ℕ) (scheme : Scheme) → text ≡ letters ++ rest → SpellsScheme letters scheme → ⊥
   pub reads : read_origin text ≡ refusal_at 0 BadScheme
 
-true_false : (t : Bool) → t ≡ true → t ≡ false → ⊥
-true_false t h k = clash (sym h ∙ k)
-  where
-    clash : true ≡ false → ⊥
-    clash e = cc
-
 neither : (text : List ℕ) → begins (codes "http://") text ≡ false → begins (codes "https://") text ≡ false
     → (letters rest : List ℕ) (scheme : Scheme) → text ≡ letters ++ rest → SpellsScheme letters scheme → ⊥
 neither text http https letters rest Http spelled h =
     let count : length letters ≡ 7 = sym (length_lower letters) ∙ ap length h in
-    true_false _ (ap (begins (codes "http://")) spelled ∙ (begins_by_letters (codes "http://") letters rest (omega arith) ∙ ap (starts (codes "http://")) h)) http
+    contradicts _ (ap (begins (codes "http://")) spelled ∙ (begins_by_letters (codes "http://") letters rest (omega arith) ∙ ap (starts (codes "http://")) h)) http
 neither text http https letters rest Https spelled h =
     let count : length letters ≡ 8 = sym (length_lower letters) ∙ ap length h in
-    true_false _ (ap (begins (codes "https://")) spelled ∙ (begins_by_letters (codes "https://") letters rest (omega arith) ∙ ap (starts (codes "https://")) h)) https
+    contradicts _ (ap (begins (codes "https://")) spelled ∙ (begins_by_letters (codes "https://") letters rest (omega arith) ∙ ap (starts (codes "https://")) h)) https
 
 pub scheme_found : (text : List ℕ) → HasScheme text ⊎ HasNoScheme text
 unfolding read_origin

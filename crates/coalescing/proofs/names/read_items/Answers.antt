@@ -3,8 +3,9 @@ use Rattle.std.proofs.lemmas.Iterator.Splits.{YieldsList-from_slice_split}
 use Rattle.std.proofs.lemmas.Iterator.Consumers.{YieldsList-turn, YieldsList-end}
 use Rattle.std.proofs.lemmas.List.{length_push, drop_all}
 use Rattle.coalescing.specs.NamesReading.{items_of}
-use Rattle.coalescing.proofs.Reading.{IsSoFar, at_start, next_item, one_more, place_within, bad_item, at_last}
+use Rattle.coalescing.proofs.Reading.{IsSoFar, at_start, one_more, place_within, bad_item, at_last}
 use Rattle.coalescing.proofs.names.read_items.Goals as goal
+use Rattle.alt_base.proofs.Lists.{next_item}
 
 pub loop-item-init : goal.loop-item-init
 loop-item-init c = rw c.new-names.ensures (at_start _)

@@ -1,7 +1,7 @@
 use Rattle.network_cache.specs.Freshness.{has_other_key}
 use Rattle.network_cache.specs.Entries.{narrowed_for}
-use Rattle.network_cache.proofs.Lists.{set_mapped}
 use Rattle.network_cache.proofs.entry.drop_key_of.Goals as goal
+use Rattle.alt_base.proofs.Lists.{set_mapped}
 
 pub loop-entry-preserved : goal.loop-entry-preserved
 loop-entry-preserved c =

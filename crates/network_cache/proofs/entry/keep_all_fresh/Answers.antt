@@ -1,7 +1,7 @@
 use Rattle.network_cache.specs.Freshness.{is_fresh}
 use Rattle.network_cache.specs.Entries.{narrowed}
-use Rattle.network_cache.proofs.Lists.{set_mapped}
 use Rattle.network_cache.proofs.entry.keep_all_fresh.Goals as goal
+use Rattle.alt_base.proofs.Lists.{set_mapped}
 
 pub loop-entry-preserved : goal.loop-entry-preserved
 loop-entry-preserved c =

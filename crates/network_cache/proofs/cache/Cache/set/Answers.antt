@@ -1,5 +1,4 @@
-use Rattle.std.proofs.Common.{ap, ◌∙◌, List, cond, refl, Result, Ok, Err}
-use Rattle.std.specs.Prelude.{OnErr}
+use Rattle.std.proofs.Common.{ap, ◌∙◌, List, cond, refl}
 use Rattle.std.specs.List.{position}
 use Rattle.origin_values.specs.Equality.{origin_eq}
 use Rattle.network_cache.specs.declared.kept.Kept.{Kept}
@@ -9,10 +8,7 @@ use Rattle.network_cache.specs.Origins.{are_distinct}
 use Rattle.network_cache.specs.Entries.{is_of, origins_of, kept_in}
 use Rattle.network_cache.proofs.Lookups.{kept_put, distinct_put}
 use Rattle.network_cache.proofs.cache.Cache.set.Goals as goal
-
-on_err : {T E : Type 0} (r : Result T E) (P : Type 0) → P → OnErr r P
-on_err (Ok x) P p = tt
-on_err (Err e) P p = p
+use Rattle.alt_base.proofs.Variants.{on_err}
 
 pub returns-in_err-put-clause-as_before : goal.returns-in_err-put-clause-as_before
 unfolding kept newest_moment
