@@ -1,13 +1,14 @@
 -- The reading of an authority against its grammar.
-use Rattle.std.proofs.Common.{◌≡◌, ◌⊎◌, ℕ, ◌+◌, ◌≤◌, ◌<◌, Bool, true, false, cond, ◌&&◌, nat_eq, nat_lt, nat_le, List, [], ◌∷◌, ◌++◌, length, Option, Some, None, option_map, refl, ap, sym, ◌∙◌, arith, inl, inr}
+use Rattle.std.proofs.Common.{◌≡◌, ◌⊎◌, ℕ, ◌+◌, ◌<◌, Bool, true, false, cond, ◌&&◌, nat_eq, nat_lt, nat_le, List, [], ◌∷◌, ◌++◌, length, Option, Some, None, option_map, refl, ap, sym, ◌∙◌, arith, inl, inr}
 use Rattle.std.proofs.Math.Seq.{take-append_seam, drop-append-add}
 use Rattle.std.proofs.lemmas.Bool.Decides.{nat_tests}
-use Rattle.std.proofs.lemmas.Str.{digit_value_digit}
 use Rattle.std.proofs.lemmas.Str.Parse.{digit_from_value}
 use Rattle.std.specs.List.{list_all}
 use Rattle.std.specs.Int.{IsInRange}
 use Rattle.std.specs.Char.{is_ascii_digit, digit_value}
 use Rattle.std.specs.Str.Parse.{AllDigits, digits_value}
+use Rattle.alt_base.proofs.Digits.{all_digits, digits_all}
+use Rattle.alt_base.proofs.Numbers.{lt_true, true_lt, le_true, true_le}
 use Rattle.origin_values.specs.HostReading.{read_host}
 use Rattle.origin_values.specs.OriginReading.{port_of}
 use Rattle.origin_values.specs.declared.host.Host.{Host}
@@ -16,38 +17,6 @@ use Rattle.altsvc_grammar.specs.AuthorityReading.{last_colon, read_port, read_op
 use Rattle.altsvc_grammar.specs.AuthorityGrammar.{SpellsPort, SpellsOptionalHost, SpellsAuthority}
 use Rattle.alt_base.proofs.Conjunctions.{both}
 
-in_range : (b : ℕ) → is_ascii_digit b ≡ true → IsInRange 48 57 b
-in_range b is = grind (arith, nat_tests)
-
-is_digit : (b : ℕ) → IsInRange 48 57 b → is_ascii_digit b ≡ true
-is_digit b is = grind (arith, nat_tests)
-
-pub all_digits : (x : List ℕ) → list_all is_ascii_digit x ≡ true → AllDigits 10 x
-all_digits [] is = tt
-all_digits (b ∷ bs) is = go (is_ascii_digit b) refl is (λ rest. all_digits bs rest)
-  where
-    go : (t : Bool) → is_ascii_digit b ≡ t → (t && list_all is_ascii_digit bs) ≡ true → (list_all is_ascii_digit bs ≡ true → AllDigits 10 bs) → (digit_value b < 10) × AllDigits 10 bs
-    go true digit rest rec =
-        let range : IsInRange 48 57 b = in_range b digit in
-        (omega (arith, digit_value_digit b range), rec rest)
-    go false digit rest rec = cc
-
-pub digits_all : (x : List ℕ) → AllDigits 10 x → list_all is_ascii_digit x ≡ true
-digits_all [] valid = refl
-digits_all (b ∷ bs) valid = rw (is_digit b (digit_from_value b valid.0)) (digits_all bs valid.1)
-
-le_test : (a b : ℕ) → a ≤ b → nat_le a b ≡ true
-le_test a b h = grind arith
-
-le_fact : (a b : ℕ) → nat_le a b ≡ true → a ≤ b
-le_fact a b h = grind arith
-
-lt_test : (a b : ℕ) → a < b → nat_lt a b ≡ true
-lt_test a b h = grind arith
-
-lt_fact : (a b : ℕ) → nat_lt a b ≡ true → a < b
-lt_fact a b h = grind arith
-
 -- ports
 pub port_read : (digits : List ℕ) (port : ℕ) → SpellsPort digits port → read_port digits ≡ Some port
 port_read [] port s = absurd (omega (arith, s.numeral.0))
@@ -55,7 +24,7 @@ port_read (b ∷ bs) port s =
     let value : digits_value 10 (b ∷ bs) ≡ port = s.value in
     let some : 0 < digits_value 10 (b ∷ bs) = omega (arith, s.some) in
     let fits : digits_value 10 (b ∷ bs) < 65536 = omega (arith, s.fits) in
-    rw (le_test (length (b ∷ bs)) 5 s.short, digits_all (b ∷ bs) s.numeral.1, lt_test 0 (digits_value 10 (b ∷ bs)) some, lt_test (digits_value 10 (b ∷ bs)) 65536 fits) (ap Some value)
+    rw (le_true (length (b ∷ bs)) 5 s.short, digits_all (b ∷ bs) s.numeral.1, lt_true 0 (digits_value 10 (b ∷ bs)) some, lt_true (digits_value 10 (b ∷ bs)) 65536 fits) (ap Some value)
 
 some_is : (a b : ℕ) (t : Bool) → cond t (Some a) None ≡ Some b → (t ≡ true) × (a ≡ b)
 some_is a b true h = (refl, cc)
@@ -72,12 +41,12 @@ port_spelled (b ∷ bs) port h =
     let tests = both (nat_le (length (b ∷ bs)) 5) (list_all is_ascii_digit (b ∷ bs)) outer.0 in
     let inner = some_is (digits_value 10 (b ∷ bs)) port (nat_lt 0 (digits_value 10 (b ∷ bs)) && nat_lt (digits_value 10 (b ∷ bs)) 65536) outer.1 in
     let bounds = both (nat_lt 0 (digits_value 10 (b ∷ bs))) (nat_lt (digits_value 10 (b ∷ bs)) 65536) inner.0 in
-    let low : 0 < digits_value 10 (b ∷ bs) = lt_fact 0 (digits_value 10 (b ∷ bs)) bounds.0 in
-    let high : digits_value 10 (b ∷ bs) < 65536 = lt_fact (digits_value 10 (b ∷ bs)) 65536 bounds.1 in
+    let low : 0 < digits_value 10 (b ∷ bs) = true_lt 0 (digits_value 10 (b ∷ bs)) bounds.0 in
+    let high : digits_value 10 (b ∷ bs) < 65536 = true_lt (digits_value 10 (b ∷ bs)) 65536 bounds.1 in
     let value : digits_value 10 (b ∷ bs) ≡ port = inner.1 in
     record {
       numeral = (omega arith, all_digits (b ∷ bs) tests.1);
-      short = le_fact (length (b ∷ bs)) 5 tests.0;
+      short = true_le (length (b ∷ bs)) 5 tests.0;
       value = value;
       some = omega arith;
       fits = omega arith;

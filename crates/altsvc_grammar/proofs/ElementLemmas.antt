@@ -1,6 +1,7 @@
 -- The steps of reading elements, in an input from a place on.
-use Rattle.std.proofs.Common.{◌≡◌, ℕ, suc, ◌+◌, ◌-◌, ◌<◌, true, false, List, [], ◌∷◌, length, take, drop, Result, Ok, Err, refl, ap, ◌∙◌, arith, length-drop}
+use Rattle.std.proofs.Common.{◌≡◌, ℕ, ◌+◌, ◌-◌, ◌<◌, true, false, List, [], ◌∷◌, length, take, drop, Result, Ok, Err, refl, ap, ◌∙◌, arith, length-drop}
 use Rattle.std.proofs.lemmas.List.{drop_all}
+use Rattle.alt_base.proofs.Numbers.{one_fewer}
 use Rattle.alt_base.specs.declared.refusal.At.{At}
 use Rattle.alt_base.specs.declared.refusal.Refused.{Refused}
 use Rattle.alt_base.specs.declared.refusal.Refused.TheVariants as refusal
@@ -26,7 +27,7 @@ by_token most p q x s =
     let rest = token_rest p q x s in
     rw (taken, rest) said
 
-no_equals : (most p q : ℕ) (token x : List ℕ) → begins_with 61 x ≡ false → after_element_token most p token q x ≡ lone_token token q x
+pub no_equals : (most p q : ℕ) (token x : List ℕ) → begins_with 61 x ≡ false → after_element_token most p token q x ≡ lone_token token q x
 no_equals most p q token [] none = refl
 no_equals most p q token (b ∷ bs) none = rw none refl
 
@@ -68,9 +69,6 @@ seen_at most seen p (b ∷ bs) some none = rw none refl
 -- an element
 pub element_at : (most : ℕ) (seen : Seen) (p : ℕ) (x : List ℕ) → p < length x → begins_with 44 (drop p x) ≡ false → seen_element most seen p (drop p x) ≡ element_seen seen (read_element most p (drop p x))
 element_at most seen p x inside none = seen_at most seen p (drop p x) (omega (arith, length-drop p x)) none
-
-one_fewer : (n i : ℕ) → i < n → n - i ≡ suc (n - (i + 1))
-one_fewer n i h = omega arith
 
 -- one turn: the blanks, and what stands before the next comma or the end
 pub one_turn : (most n i : ℕ) (seen : Seen) (p q : ℕ) (x : List ℕ) → i < n → q ≡ read_blanks p (drop p x) → drop q x ≡ after_blanks (drop p x)

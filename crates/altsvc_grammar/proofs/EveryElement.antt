@@ -1,8 +1,12 @@
 -- Each text that an element begins is an element and what follows it, or is refused.
-use Rattle.std.proofs.Common.{◌≡◌, ◌≢◌, ◌⊎◌, ℕ, zero, suc, ◌-◌, ◌/◌, ◌%◌, ◌≤◌, ◌<◌, Bool, true, false, cond, ◌&&◌, nat_eq, nat_lt, nat_le, List, [], ◌∷◌, ◌++◌, length, codes, All, Option, Some, None, refl, ap, sym, ◌∙◌, subst, arith, length-append, append_assoc, inl, inr}
+use Rattle.std.proofs.Common.{◌≡◌, ◌≢◌, ◌⊎◌, ℕ, zero, suc, ◌-◌, ◌/◌, ◌%◌, ◌≤◌, ◌<◌, Bool, true, false, cond, nat_eq, nat_lt, nat_le, List, [], ◌∷◌, ◌++◌, length, codes, All, Option, Some, None, refl, ap, sym, ◌∙◌, subst, arith, length-append, append_assoc, inl, inr}
 use Rattle.std.proofs.lemmas.List.Elements.{All-cons, All-nil}
 use Rattle.std.specs.Cmp.Lexicographic.{pointwise}
 use Rattle.std.specs.Fmt.{digit_glyph}
+use Rattle.std.proofs.Math.Bool.{and-false}
+use Rattle.alt_base.proofs.Lists.{true_text}
+use Rattle.alt_base.proofs.Booleans.{contradicts}
+use Rattle.alt_base.proofs.Numbers.{true_eq, false_eq, true_lt, false_lt}
 use Rattle.percent_encoding.specs.Percent.{percent_encode_byte}
 use Rattle.field_text.specs.Runs.{AllIn, BeginsIn}
 use Rattle.field_text.specs.BlanksGrammar.{is_blank}
@@ -19,11 +23,13 @@ use Rattle.altsvc_grammar.specs.AuthorityGrammar.{IsProtocol, SpellsAuthority}
 use Rattle.altsvc_grammar.specs.ParameterGrammar.{IsToken, Parameter, AreParameters}
 use Rattle.altsvc_grammar.specs.ValueGrammar.{Alternative, IsAlternative, Element, Clear, Offered, element_then, IsElement}
 use Rattle.altsvc_grammar.specs.ValueRefusals.{EndsElement, ElementRefused}
+use Rattle.altsvc_grammar.proofs.ParameterTerms.{ma_of, says_ma, persist_of, says_persist}
+use Rattle.altsvc_grammar.proofs.Fronts.{true_front, false_front, not_begun}
 use Rattle.altsvc_grammar.proofs.Spelling.{quoted_then}
 use Rattle.altsvc_grammar.proofs.Percents.{coded, escape_coded, byte_length}
 use Rattle.altsvc_grammar.proofs.Authorities.{authority_read, authority_spelled}
-use Rattle.altsvc_grammar.proofs.SpelledElements.{Ends, pointwise_is, alternative_count}
-use Rattle.altsvc_grammar.proofs.EveryParameter.{eq_fact, not_eq_fact, begins_is, TokenFront, token_front, QuotedFront, QuotedRefused, quoted_front, blanks_front, ParametersFront, ParametersRefused, parameters_outcome}
+use Rattle.altsvc_grammar.proofs.SpelledElements.{Ends, alternative_count}
+use Rattle.altsvc_grammar.proofs.EveryParameter.{TokenFront, token_front, QuotedFront, QuotedRefused, quoted_front, blanks_front, ParametersFront, ParametersRefused, parameters_outcome}
 
 -- a protocol, or its first bad `%`
 pub record Decoded (t : List ℕ) : Type 0 where
@@ -38,9 +44,6 @@ pub record BadPercentIn (t : List ℕ) : Type 0 where
   pub text : t ≡ encoded good ++ 37 ∷ more
   pub in_token : AllIn is_token more
   pub bad : (byte : ℕ) (after : List ℕ) → byte < 256 → 37 ∷ more ≡ encoded_byte byte ++ after → ⊥
-
-both_ways : (b : Bool) → b ≡ true → b ≡ false → ⊥
-both_ways b holds fails = cc
 
 coded_from : (byte : ℕ) (after more : List ℕ) → byte < 256 → 37 ∷ more ≡ encoded_byte byte ++ after → is_coded more ≡ true
 unfolding percent_encode_byte
@@ -57,26 +60,16 @@ coded_from byte after more small e = go (is_plain byte) refl e
 not_below : (b k : ℕ) → k < 256 → 256 ≤ b → nat_le b k ≡ false
 not_below b k h i = grind arith
 
-and_none : (a : Bool) → (a && false) ≡ false
-and_none true = refl
-and_none false = refl
-
 token_small : (b : ℕ) → is_token b ≡ true → b < 256
 token_small b h = go (nat_lt b 256) refl
   where
-    lt_fact : (a c : ℕ) → nat_lt a c ≡ true → a < c
-    lt_fact a c i = grind arith
-
-    ge_fact : (a c : ℕ) → nat_lt a c ≡ false → c ≤ a
-    ge_fact a c i = grind arith
-
     large : 256 ≤ b → is_token b ≡ false
     large i = rw (not_below b 33 (omega arith) i, not_below b 39 (omega arith) i, not_below b 43 (omega arith) i, not_below b 46 (omega arith) i, not_below b 57 (omega arith) i, not_below b 90 (omega arith) i, not_below b 122 (omega arith) i, not_below b 124 (omega arith) i, not_below b 126 (omega arith) i)
-        (rw (and_none (nat_le 33 b), and_none (nat_le 35 b), and_none (nat_le 42 b), and_none (nat_le 45 b), and_none (nat_le 48 b), and_none (nat_le 65 b), and_none (nat_le 94 b), and_none (nat_le 124 b), and_none (nat_le 126 b)) refl)
+        (rw (and-false (nat_le 33 b), and-false (nat_le 35 b), and-false (nat_le 42 b), and-false (nat_le 45 b), and-false (nat_le 48 b), and-false (nat_le 65 b), and-false (nat_le 94 b), and-false (nat_le 124 b), and-false (nat_le 126 b)) refl)
 
     go : (t : Bool) → nat_lt b 256 ≡ t → b < 256
-    go true is = lt_fact b 256 is
-    go false is = absurd (both_ways (is_token b) h (large (ge_fact b 256 is)))
+    go true is = true_lt b 256 is
+    go false is = contradicts (is_token b) h (large (false_lt b 256 is))
 
 all_tail : (class : ℕ → Bool) (x y : List ℕ) → AllIn class (x ++ y) → AllIn class y
 all_tail class [] y h = h
@@ -106,7 +99,7 @@ protocol_outcome (suc k) (b ∷ bs) small valid = go (nat_eq b 37) refl (λ t le
     Rest = (t : List ℕ) → length t < k → AllIn is_token t → Decoded t ⊎ BadPercentIn t
 
     percent : b ≡ 37 → (t : Bool) → is_coded bs ≡ t → Rest → Decoded (b ∷ bs) ⊎ BadPercentIn (b ∷ bs)
-    percent e false is rest = inr (record { good = []; more = bs; bytes = All-nil (λ c. c < 256); text = ap (λ c. c ∷ bs) e; in_token = valid.1; bad = λ byte after below f. both_ways (is_coded bs) (coded_from byte after bs below f) is })
+    percent e false is rest = inr (record { good = []; more = bs; bytes = All-nil (λ c. c < 256); text = ap (λ c. c ∷ bs) e; in_token = valid.1; bad = λ byte after below f. contradicts (is_coded bs) (coded_from byte after bs below f) is })
     percent e true is rest =
         let c = coded bs is in
         let text : b ∷ bs ≡ encoded_byte c.byte ++ c.after = ap (λ d. d ∷ bs) e ∙ c.text in
@@ -115,7 +108,7 @@ protocol_outcome (suc k) (b ∷ bs) small valid = go (nat_eq b 37) refl (λ t le
         coded_more (b ∷ bs) c.byte c.after c.small text (rest c.after less are)
 
     go : (t : Bool) → nat_eq b 37 ≡ t → Rest → Decoded (b ∷ bs) ⊎ BadPercentIn (b ∷ bs)
-    go true is rest = percent (eq_fact b 37 is) (is_coded bs) refl rest
+    go true is rest = percent (true_eq b 37 is) (is_coded bs) refl rest
     go false is rest = plain_more b bs valid.0 is (rest bs (omega arith) valid.1)
 
 -- an element and what follows it up to a comma or the end, or its refusal
@@ -135,23 +128,16 @@ pub element_longer : (e : Element) (w : List ℕ) → length w ≤ length (eleme
 element_longer Clear w = omega (arith, length-append (codes "clear") w)
 element_longer (Offered a) w = omega (arith, alternative_count a w)
 
-not_begun : (class : ℕ → Bool) (b : ℕ) (bs : List ℕ) → (BeginsIn class (b ∷ bs) → ⊥) → class b ≡ false
-not_begun class b bs h = go (class b) refl
-  where
-    go : (t : Bool) → class b ≡ t → t ≡ false
-    go true is = absurd (h is)
-    go false is = refl
-
 ends_element : (e : Element) (w : List ℕ) (b : ℕ) (bs : List ℕ) → Ends e w (b ∷ bs) → EndsElement e w b
-ends_element Clear w b bs h = h
-ends_element (Offered a) w b bs h = (h.0, not_eq_fact b 59 h.1)
+ends_element Clear w b bs h = (h.0, false_front 61 w h.1)
+ends_element (Offered a) w b bs h = (h.0, false_eq b 59 h.1)
 
 ended : (n : ℕ) (z : List ℕ) (e : Element) (back tail : List ℕ) → z ≡ element_then e (back ++ tail) → IsElement e → AllIn is_blank back → (BeginsIn is_blank tail → ⊥) → Ends e (back ++ tail) tail → length z ≤ n → ElementOutcome n z
 ended n z e back [] text valid are blank ends short = inl (record { e = e; back = back; tail = []; text = text; valid = valid; blanks = are; break = inl refl })
 ended n z e back (b ∷ bs) text valid are blank ends short = go (nat_eq b 44) refl
   where
     go : (t : Bool) → nat_eq b 44 ≡ t → ElementOutcome n z
-    go true is = inl (record { e = e; back = back; tail = b ∷ bs; text = text; valid = valid; blanks = are; break = inr (bs, ap (λ c. c ∷ bs) (eq_fact b 44 is)) })
+    go true is = inl (record { e = e; back = back; tail = b ∷ bs; text = text; valid = valid; blanks = are; break = inr (bs, ap (λ c. c ∷ bs) (true_eq b 44 is)) })
     go false is = inr (
       n - length (b ∷ bs),
       Trailing,
@@ -164,7 +150,7 @@ ended n z e back (b ∷ bs) text valid are blank ends short = go (nat_eq b 44) r
         is_element = valid;
         are_blanks = are;
         no_blank = not_begun is_blank b bs blank;
-        no_comma = not_eq_fact b 44 is;
+        no_comma = false_eq b 44 is;
         ends = ends_element e (back ++ b ∷ bs) b bs ends;
         place = omega (arith, ap length text, element_longer e (back ++ b ∷ bs), length-append back (b ∷ bs));
       },
@@ -180,10 +166,10 @@ with_authority n z proto y t host port text valid spelled short = go (parameters
     whole = text ∙ ap (λ xs. encoded proto ++ 61 ∷ xs) t.text
 
     of : List Parameter → Alternative
-    of ps = record { proto = proto; parts = t.parts; host = host; port = port; parameters = ps }
+    of ps = record { proto = proto; parts = t.parts; host = host; port = port; parameters = ps; ma = ma_of ps; persist = persist_of ps }
 
     is : (ps : List Parameter) → AreParameters ps → IsAlternative (of ps)
-    is ps are = record { proto = valid; parts = t.valid; authority = spelled; parameters = are }
+    is ps are = record { proto = valid; parts = t.valid; authority = spelled; parameters = are; ma = says_ma ps; persist = says_persist ps }
 
     go : ParametersFront t.rest ⊎ ParametersRefused n t.rest → ElementOutcome n z
     go (inl r) = ended n z (Offered (of r.ps)) r.back r.tail (whole ∙ ap (λ xs. encoded proto ++ 61 ∷ quoted_then t.parts xs) r.text) (is r.ps r.valid) r.blanks r.no_blank (r.ends, r.no_semicolon) short
@@ -216,12 +202,6 @@ with_protocol n z proto y text valid short = go (quoted_front n y inside)
     go (inl t) = authority t (read_authority (parts_bytes t.parts)) refl
     go (inr t) = inr (t.q, BadQuoted, record { proto = proto; rest = y; p = t.p; reason = t.reason; text = text; is_proto = valid; from = t.from; refused = t.refused })
 
-lt_fact : (a b : ℕ) → nat_lt a b ≡ true → a < b
-lt_fact a b h = grind arith
-
-ge_fact : (a b : ℕ) → nat_lt a b ≡ false → b ≤ a
-ge_fact a b h = grind arith
-
 some_bytes : (t proto : List ℕ) → IsToken t → t ≡ encoded proto → 0 < length proto
 some_bytes t [] valid text = absurd (valid.some text)
 some_bytes t (b ∷ bs) valid text = omega arith
@@ -230,8 +210,8 @@ with_equals : (n : ℕ) (z t y : List ℕ) → z ≡ t ++ 61 ∷ y → IsToken t
 with_equals n z t y text valid short = go (protocol_outcome (suc (length t)) t (omega arith) valid.valid)
   where
     decoded : (d : Decoded t) (b : Bool) → nat_lt 255 (length d.proto) ≡ b → ElementOutcome n z
-    decoded d true is = inr (n - length z, BadToken, inr (record { proto = d.proto; rest = y; text = text ∙ ap (λ xs. xs ++ 61 ∷ y) d.text; bytes = d.bytes; long = lt_fact 255 (length d.proto) is; place = omega arith }))
-    decoded d false is = with_protocol n z d.proto y (text ∙ ap (λ xs. xs ++ 61 ∷ y) d.text) (record { some = some_bytes t d.proto valid d.text; short = ge_fact 255 (length d.proto) is; bytes = d.bytes }) short
+    decoded d true is = inr (n - length z, BadToken, inr (record { proto = d.proto; rest = y; text = text ∙ ap (λ xs. xs ++ 61 ∷ y) d.text; bytes = d.bytes; long = true_lt 255 (length d.proto) is; place = omega arith }))
+    decoded d false is = with_protocol n z d.proto y (text ∙ ap (λ xs. xs ++ 61 ∷ y) d.text) (record { some = some_bytes t d.proto valid d.text; short = false_lt 255 (length d.proto) is; bytes = d.bytes }) short
 
     go : Decoded t ⊎ BadPercentIn t → ElementOutcome n z
     go (inl d) = decoded d (nat_lt 255 (length d.proto)) refl
@@ -245,7 +225,7 @@ element_outcome n b bs blank comma short = go (token_front (b ∷ bs))
     clear : (t : TokenFront (b ∷ bs)) → begins_with 61 t.rest ≡ false → (c : Bool) → pointwise nat_eq t.token (codes "clear") ≡ c → ElementOutcome n (b ∷ bs)
     clear t none true is =
         let w = blanks_front t.rest in
-        let text : b ∷ bs ≡ codes "clear" ++ (w.blanks ++ w.rest) = t.text ∙ ap (λ xs. xs ++ t.rest) (pointwise_is t.token (codes "clear") is) ∙ ap (λ xs. codes "clear" ++ xs) w.text in
+        let text : b ∷ bs ≡ codes "clear" ++ (w.blanks ++ w.rest) = t.text ∙ ap (λ xs. xs ++ t.rest) (true_text t.token (codes "clear") is) ∙ ap (λ xs. codes "clear" ++ xs) w.text in
         ended n (b ∷ bs) Clear w.blanks w.rest text tt w.valid w.longest ((λ h. t.longest (subst (BeginsIn is_token) (sym w.text) h)), ap (begins_with 61) (sym w.text) ∙ none) short
     clear t none false is = inr (
       n - length t.rest,
@@ -255,15 +235,15 @@ element_outcome n b bs blank comma short = go (token_front (b ∷ bs))
         rest = t.rest;
         text = t.text;
         valid = t.valid;
-        no_clear = λ e. both_ways (pointwise nat_eq t.token (codes "clear")) (ap (λ xs. pointwise nat_eq xs (codes "clear")) e) is;
+        no_clear = λ e. contradicts (pointwise nat_eq t.token (codes "clear")) (ap (λ xs. pointwise nat_eq xs (codes "clear")) e) is;
         longest = t.longest;
-        no_equals = none;
+        no_equals = false_front 61 t.rest none;
         place = omega (arith, ap length t.text, length-append t.token t.rest);
       },
     )
 
     equals : (t : TokenFront (b ∷ bs)) → (c : Bool) → begins_with 61 t.rest ≡ c → ElementOutcome n (b ∷ bs)
-    equals t true is = let e = begins_is 61 t.rest is in with_equals n (b ∷ bs) t.token e.0 (t.text ∙ ap (λ xs. t.token ++ xs) e.1) t.valid short
+    equals t true is = let e = true_front 61 t.rest is in with_equals n (b ∷ bs) t.token e.0 (t.text ∙ ap (λ xs. t.token ++ xs) e.1) t.valid short
     equals t false is = clear t is (pointwise nat_eq t.token (codes "clear")) refl
 
     go : TokenFront (b ∷ bs) ⊎ (BeginsIn is_token (b ∷ bs) → ⊥) → ElementOutcome n (b ∷ bs)

@@ -1,5 +1,5 @@
 -- Each text behind an authority is parameters and what follows them, or is refused.
-use Rattle.std.proofs.Common.{◌≡◌, ◌≢◌, ◌⊎◌, ℕ, zero, suc, ◌+◌, ◌-◌, ◌≤◌, ◌<◌, Bool, true, false, nat_eq, List, [], ◌∷◌, ◌++◌, length, refl, ap, ◌∙◌, subst, arith, length-append, inl, inr}
+use Rattle.std.proofs.Common.{◌≡◌, ◌⊎◌, ℕ, zero, suc, ◌+◌, ◌-◌, ◌≤◌, ◌<◌, Bool, true, false, List, [], ◌∷◌, ◌++◌, length, refl, ap, ◌∙◌, subst, arith, length-append, inl, inr}
 use Rattle.field_text.specs.declared.text_refusal.TextRefusal.{TextRefusal}
 use Rattle.field_text.specs.Runs.{AllIn, BeginsIn, IsLongestRun, run_of, after_run}
 use Rattle.field_text.specs.BlanksGrammar.{is_blank}
@@ -9,18 +9,9 @@ use Rattle.field_text.proofs.RunLemmas.{longest_run}
 use Rattle.field_text.proofs.QuotedLemmas.{one_quoted_of}
 use Rattle.altsvc_grammar.specs.Steps.{begins_with}
 use Rattle.altsvc_grammar.specs.ParameterGrammar.{IsToken, ParameterValue, Token, Quoted, value_then, IsParameterValue, EndsValue, Parameter, parameters_then, AreParameters, EndsParameters, ParameterRefused}
+use Rattle.altsvc_grammar.proofs.Fronts.{true_front, false_front}
 use Rattle.altsvc_grammar.proofs.Spelling.{quoted_then}
 use Rattle.altsvc_grammar.proofs.SpelledParameters.{value_length}
-
-pub eq_fact : (a b : ℕ) → nat_eq a b ≡ true → a ≡ b
-eq_fact a b h = grind arith
-
-pub not_eq_fact : (a b : ℕ) → nat_eq a b ≡ false → a ≢ b
-not_eq_fact a b h = grind arith
-
-pub begins_is : (byte : ℕ) (x : List ℕ) → begins_with byte x ≡ true → (bs : List ℕ) × (x ≡ byte ∷ bs)
-begins_is byte [] h = cc
-begins_is byte (b ∷ bs) h = (bs, ap (λ c. c ∷ bs) (eq_fact b byte h))
 
 -- a run of token bytes, which isn't empty, or none
 pub record TokenFront (z : List ℕ) : Type 0 where
@@ -89,8 +80,8 @@ pub parameter_outcome : (n : ℕ) (z : List ℕ) → length z ≤ n → (BeginsI
 parameter_outcome n z short blank = go (token_front z)
   where
     named : (t : TokenFront z) → (b : Bool) → begins_with 61 t.rest ≡ b → ParameterOutcome n z
-    named t true is = let e = begins_is 61 t.rest is in value_outcome n z t.token e.0 (t.text ∙ ap (λ xs. t.token ++ xs) e.1) t.valid short
-    named t false is = inr (n - length t.rest, inr (inl (record { name = t.token; rest = t.rest; text = t.text; is_name = t.valid; no_token = t.longest; no_equals = is; place = omega (arith, ap length t.text, length-append t.token t.rest) })))
+    named t true is = let e = true_front 61 t.rest is in value_outcome n z t.token e.0 (t.text ∙ ap (λ xs. t.token ++ xs) e.1) t.valid short
+    named t false is = inr (n - length t.rest, inr (inl (record { name = t.token; rest = t.rest; text = t.text; is_name = t.valid; no_token = t.longest; no_equals = false_front 61 t.rest is; place = omega (arith, ap length t.text, length-append t.token t.rest) })))
 
     go : TokenFront z ⊎ (BeginsIn is_token z → ⊥) → ParameterOutcome n z
     go (inl t) = named t (begins_with 61 t.rest) refl
@@ -193,7 +184,7 @@ parameters_outcome (suc k) n w small short = go (blanks_front w) (λ v less with
     semicolon : (b : BlanksFront w) → (t : Bool) → begins_with 59 b.rest ≡ t → Rest → ParametersFront w ⊎ ParametersRefused n w
     semicolon b false is rest = inl (record { ps = []; back = b.blanks; tail = b.rest; text = b.text; valid = tt; blanks = b.valid; no_blank = b.longest; no_semicolon = is; ends = tt })
     semicolon b true is rest =
-        let e = begins_is 59 b.rest is in
+        let e = true_front 59 b.rest is in
         let c = blanks_front e.0 in
         let inside : length c.rest ≤ n = omega (arith, ap length b.text, length-append b.blanks b.rest, ap length e.1, ap length c.text, length-append c.blanks c.rest) in
         one b e.0 e.1 c (parameter_outcome n c.rest inside c.longest) rest

@@ -1,10 +1,14 @@
 -- Each text is exactly one value of Alt-Used or one refusal.
-use Rattle.std.proofs.Common.{◌≡◌, ◌≢◌, ◌⊎◌, ℕ, ◌-◌, Bool, true, false, nat_eq, List, [], ◌∷◌, ◌++◌, length, take, Option, Some, None, Result, Ok, Err, IfOk, refl, ap, ap₂, sym, ◌∙◌, subst, arith, length-append, inl, inr}
+use Rattle.std.proofs.Common.{◌≡◌, ◌⊎◌, ℕ, ◌-◌, Bool, true, false, nat_eq, List, [], ◌∷◌, ◌++◌, length, take, Option, Some, None, Result, Ok, Err, IfOk, refl, ap, ap₂, sym, ◌∙◌, subst, arith, length-append, inl, inr}
 use Rattle.std.specs.Char.{is_ascii_digit}
+use Rattle.std.proofs.Math.Seq.{take-append_seam}
+use Rattle.std.proofs.lemmas.List.{append-nil}
+use Rattle.alt_base.proofs.Numbers.{true_eq, false_eq}
+use Rattle.altsvc_grammar.proofs.Fronts.{not_begun}
 use Rattle.alt_base.specs.declared.refusal.At.{At}
 use Rattle.alt_base.specs.declared.refusal.Refused as Fails
 use Rattle.alt_base.specs.declared.refusal.Refused.TheVariants as fails
-use Rattle.field_text.specs.Runs.{BeginsIn, IsLongestRun, run_of, after_run}
+use Rattle.field_text.specs.Runs.{IsLongestRun, run_of, after_run}
 use Rattle.field_text.proofs.RunLemmas.{longest_run}
 use Rattle.alt_base.specs.Answers.{Answers, IfRefused}
 use Rattle.origin_values.specs.HostGrammar.{SpellsHost}
@@ -18,23 +22,10 @@ use Rattle.altsvc_grammar.specs.UsedGrammar.{IsHostRun, SpellsUsed, UsedRefusedA
 use Rattle.altsvc_grammar.specs.declared.refusal.UsedRefusal.{UsedRefusal}
 use Rattle.altsvc_grammar.specs.declared.refusal.UsedRefusal.TheVariants.{BadHost, BadPort, Trailing}
 use Rattle.altsvc_grammar.proofs.Authorities.{port_read, port_spelled}
-use Rattle.altsvc_grammar.proofs.UsedValues.{RunFront, run_front, end_at, taken, append_none, used_spelled, used_refusals}
-
-eq_fact : (a b : ℕ) → nat_eq a b ≡ true → a ≡ b
-eq_fact a b h = grind arith
-
-not_eq_fact : (a b : ℕ) → nat_eq a b ≡ false → a ≢ b
-not_eq_fact a b h = grind arith
+use Rattle.altsvc_grammar.proofs.UsedValues.{RunFront, run_front, end_at, used_spelled, used_refusals}
 
 abbrev Some_used : List ℕ → Type 0
 Some_used x = ((used : Host × ℕ) × SpellsUsed x used) ⊎ ((q : ℕ) × (r : UsedRefusal) × UsedRefusedAt x q r)
-
-no_digit : (b : ℕ) (bs : List ℕ) → (BeginsIn is_ascii_digit (b ∷ bs) → ⊥) → is_ascii_digit b ≡ false
-no_digit b bs h = go (is_ascii_digit b) refl
-  where
-    go : (t : Bool) → is_ascii_digit b ≡ t → t ≡ false
-    go true is = absurd (h is)
-    go false is = refl
 
 -- the run is one alone
 same_run : (x run tail run' tail' : List ℕ) → x ≡ run ++ tail → x ≡ run' ++ tail' → IsHostRun run tail → IsHostRun run' tail' → run ≡ run'
@@ -42,15 +33,15 @@ same_run x run tail run' tail' e e' is is' =
     let here : used_host_end x ≡ Some (length run) = ap used_host_end e ∙ end_at run tail is in
     let there : used_host_end x ≡ Some (length run') = ap used_host_end e' ∙ end_at run' tail' is' in
     let same : length run ≡ length run' = cc in
-    sym (taken run tail) ∙ ap₂ take same (sym e ∙ e') ∙ taken run' tail'
+    sym (take-append_seam run tail) ∙ ap₂ take same (sym e ∙ e') ∙ take-append_seam run' tail'
 
 digits_answer : (x run bs : List ℕ) (host : Host) → x ≡ run ++ 58 ∷ bs → IsHostRun run (58 ∷ bs) → SpellsHost run host → Some_used x
 digits_answer x run bs host text is s = go (run_of is_ascii_digit bs) (after_run is_ascii_digit bs) (longest_run is_ascii_digit bs)
   where
     ported : (digits rest : List ℕ) (port : ℕ) → IsLongestRun is_ascii_digit bs digits rest → SpellsPort digits port → Some_used x
     ported digits [] port r spelled =
-        let whole : x ≡ run ++ 58 ∷ digits = text ∙ ap (λ xs. run ++ 58 ∷ xs) (r.text ∙ append_none digits) in
-        let is' : IsHostRun run (58 ∷ digits) = subst (λ xs. IsHostRun run (58 ∷ xs)) (r.text ∙ append_none digits) is in
+        let whole : x ≡ run ++ 58 ∷ digits = text ∙ ap (λ xs. run ++ 58 ∷ xs) (r.text ∙ append-nil digits) in
+        let is' : IsHostRun run (58 ∷ digits) = subst (λ xs. IsHostRun run (58 ∷ xs)) (r.text ∙ append-nil digits) is in
         inl ((host, port), record { run = run; tail = 58 ∷ digits; text = whole; is_run = is'; of_host = s; of_port = inr (digits, refl, spelled) })
     ported digits (c ∷ cs) port r spelled =
         inr (
@@ -66,7 +57,7 @@ digits_answer x run bs host text is s = go (run_of is_ascii_digit bs) (after_run
             is_run = subst (λ xs. IsHostRun run (58 ∷ xs)) r.text is;
             of_host = s;
             of_port = inr (digits, refl, spelled);
-            left = no_digit c cs r.longest;
+            left = not_begun is_ascii_digit c cs r.longest;
             place = omega (arith, ap length text, length-append run (58 ∷ bs), ap length r.text, length-append digits (c ∷ cs));
           },
         )
@@ -100,7 +91,7 @@ host_answer x run (b ∷ bs) host text is s = go (nat_eq b 58) refl
   where
     go : (t : Bool) → nat_eq b 58 ≡ t → Some_used x
     go true e =
-        let colon = ap (λ c. c ∷ bs) (eq_fact b 58 e) in
+        let colon = ap (λ c. c ∷ bs) (true_eq b 58 e) in
         digits_answer x run bs host (text ∙ ap (λ xs. run ++ xs) colon) (subst (IsHostRun run) colon is) s
     go false e = inr (
       length x - length (b ∷ bs),
@@ -115,7 +106,7 @@ host_answer x run (b ∷ bs) host text is s = go (nat_eq b 58) refl
         is_run = is;
         of_host = s;
         of_port = inl (refl, refl);
-        left = not_eq_fact b 58 e;
+        left = false_eq b 58 e;
         place = omega (arith, ap length text, length-append run (b ∷ bs));
       },
     )

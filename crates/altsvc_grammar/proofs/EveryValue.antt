@@ -1,5 +1,6 @@
 -- Each text is exactly one value or one refusal.
-use Rattle.std.proofs.Common.{◌≡◌, ◌≢◌, ◌⊎◌, ℕ, zero, suc, ◌≤◌, ◌<◌, Bool, true, false, nat_eq, nat_lt, List, [], ◌∷◌, ◌++◌, length, Some, None, Result, Ok, Err, IfOk, refl, ap, sym, ◌∙◌, subst, arith, length-append, inl, inr}
+use Rattle.std.proofs.Common.{◌≡◌, ◌⊎◌, ℕ, zero, suc, ◌≤◌, ◌<◌, Bool, true, false, nat_eq, nat_lt, List, [], ◌∷◌, ◌++◌, length, Some, None, Result, Ok, Err, IfOk, refl, ap, sym, ◌∙◌, subst, arith, length-append, inl, inr}
+use Rattle.alt_base.proofs.Numbers.{true_eq, false_eq, true_lt, false_lt}
 use Rattle.alt_base.specs.declared.refusal.At.{At}
 use Rattle.alt_base.specs.declared.refusal.Refused as Fails
 use Rattle.alt_base.specs.declared.refusal.Refused.TheVariants as fails
@@ -12,17 +13,12 @@ use Rattle.altsvc_grammar.specs.declared.refusal.AltRefusal.TheVariants.{Empty, 
 use Rattle.altsvc_grammar.specs.ValueReading.{read_value, most_bytes}
 use Rattle.altsvc_grammar.specs.ValueGrammar.{Element, element_then, Slot, slot_then, IsSlot, slots_before, AreSlots, elements_of, meaning, SpellsValue}
 use Rattle.altsvc_grammar.specs.ValueRefusals.{IsRefusedElement, ValueRefusedAt, OneAltSvc}
+use Rattle.altsvc_grammar.proofs.Fronts.{not_begun}
 use Rattle.altsvc_grammar.proofs.EveryParameter.{BlanksFront, blanks_front}
 use Rattle.altsvc_grammar.proofs.EveryElement.{ElementFront, ElementOutcome, element_outcome, element_longer}
 use Rattle.altsvc_grammar.proofs.SpelledValues.{slots_count}
 use Rattle.altsvc_grammar.proofs.Meanings.{value_spelled}
 use Rattle.altsvc_grammar.proofs.RefusedValues.{value_refused}
-
-eq_fact : (a b : ℕ) → nat_eq a b ≡ true → a ≡ b
-eq_fact a b h = grind arith
-
-not_eq_fact : (a b : ℕ) → nat_eq a b ≡ false → a ≢ b
-not_eq_fact a b h = grind arith
 
 -- slots to the end
 pub record Whole (x : List ℕ) : Type 0 where
@@ -47,13 +43,6 @@ are_append (t ∷ ss) s are is = (are.0, are_append ss s are.1 is)
 
 suffix : (ss : List Slot) (w : List ℕ) → length w ≤ length (slots_before ss w)
 suffix ss w = omega (arith, slots_count ss w)
-
-no_begin : (class : ℕ → Bool) (b : ℕ) (bs : List ℕ) → (BeginsIn class (b ∷ bs) → ⊥) → class b ≡ false
-no_begin class b bs h = go (class b) refl
-  where
-    go : (t : Bool) → class b ≡ t → t ≡ false
-    go true is = absurd (h is)
-    go false is = refl
 
 walk : (k : ℕ) (x : List ℕ) (ss : List Slot) (y : List ℕ) → length y < k → AreSlots ss → x ≡ slots_before ss y → Whole x ⊎ Refused x
 walk zero x ss y small are text = absurd (omega arith)
@@ -97,11 +86,11 @@ walk (suc k) x ss y small are text = go (blanks_front y) (λ tt' z less are' e. 
     byte : (b : BlanksFront y) (c : ℕ) (cs : List ℕ) → b.rest ≡ c ∷ cs → (t : Bool) → nat_eq c 44 ≡ t → Rest → Whole x ⊎ Refused x
     byte b c cs e true is rest =
         let less : length cs < k = omega (arith, ap length b.text, length-append b.blanks b.rest, ap length e) in
-        comma (none b) cs (is_none b) (b.text ∙ ap (λ xs. b.blanks ++ xs) (e ∙ ap (λ d. d ∷ cs) (eq_fact c 44 is))) less rest
+        comma (none b) cs (is_none b) (b.text ∙ ap (λ xs. b.blanks ++ xs) (e ∙ ap (λ d. d ∷ cs) (true_eq c 44 is))) less rest
     byte b c cs e false is rest =
         let inside : length (c ∷ cs) ≤ length x = omega (arith, short, ap length b.text, length-append b.blanks b.rest, ap length e) in
-        let blank : is_blank c ≡ false = no_begin is_blank c cs (λ h. b.longest (subst (BeginsIn is_blank) (sym e) h)) in
-        outcome b (subst (ElementOutcome (length x)) (sym e) (element_outcome (length x) c cs blank (not_eq_fact c 44 is) inside)) rest
+        let blank : is_blank c ≡ false = not_begun is_blank c cs (λ h. b.longest (subst (BeginsIn is_blank) (sym e) h)) in
+        outcome b (subst (ElementOutcome (length x)) (sym e) (element_outcome (length x) c cs blank (false_eq c 44 is) inside)) rest
 
     split : (b : BlanksFront y) (z : List ℕ) → b.rest ≡ z → Rest → Whole x ⊎ Refused x
     split b [] e rest = finish (none b) (is_none b) (b.text ∙ ap (λ xs. b.blanks ++ xs) e)
@@ -141,12 +130,6 @@ whole_answer x w short (f ∷ es) e = inl (
   },
 )
 
-lt_fact : (a b : ℕ) → nat_lt a b ≡ true → a < b
-lt_fact a b h = grind arith
-
-ge_fact : (a b : ℕ) → nat_lt a b ≡ false → b ≤ a
-ge_fact a b h = grind arith
-
 pub answer : (x : List ℕ) → Some_answer x
 answer x = go (nat_lt most_bytes (length x)) refl
   where
@@ -155,8 +138,8 @@ answer x = go (nat_lt most_bytes (length x)) refl
     short_one short (inr t) = inr (t.q, t.r, refused_in_table x t.q t.r t.refused short)
 
     go : (t : Bool) → nat_lt most_bytes (length x) ≡ t → Some_answer x
-    go true is = inr (most_bytes, TooLong, (refl, lt_fact most_bytes (length x) is))
-    go false is = short_one (ge_fact most_bytes (length x) is) (walk (suc (length x)) x [] x (omega arith) tt refl)
+    go true is = inr (most_bytes, TooLong, (refl, true_lt most_bytes (length x) is))
+    go false is = short_one (false_lt most_bytes (length x) is) (walk (suc (length x)) x [] x (omega arith) tt refl)
 
 abbrev err_of : At AltRefusal → Result AltSvc (At AltRefusal)
 err_of a = Err a

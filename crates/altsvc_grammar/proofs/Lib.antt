@@ -1,10 +1,12 @@
 pub mod Slices
+pub mod Fronts
 pub mod ParameterLemmas
 pub mod ProtocolLemmas
 pub mod KeptLemmas
 pub mod ElementLemmas
 pub mod Spelling
 pub mod Percents
+pub mod ParameterTerms
 pub mod SpelledParameters
 pub mod Authorities
 pub mod SpelledElements

@@ -1,6 +1,8 @@
 -- What was seen of the elements is what they mean, and the reading of a whole value.
-use Rattle.std.proofs.Common.{◌≡◌, ◌≢◌, ℕ, ◌+◌, ◌≤◌, ◌<◌, Bool, true, false, cond, ◌||◌, nat_lt, List, [], ◌∷◌, ◌++◌, length, map, Ok, refl, ap, ap₂, sym, ◌∙◌, subst, arith, append_assoc}
+use Rattle.std.proofs.Common.{◌≡◌, ◌≢◌, ℕ, ◌+◌, ◌≤◌, ◌<◌, Bool, true, false, cond, ◌||◌, List, [], ◌∷◌, ◌++◌, length, map, Ok, refl, ap, ap₂, sym, ◌∙◌, subst, append_assoc}
 use Rattle.std.specs.List.{list_any}
+use Rattle.std.proofs.lemmas.List.{map-append, append-nil}
+use Rattle.alt_base.proofs.Numbers.{lt_true, lt_false}
 use Rattle.altsvc_grammar.specs.declared.refusal.AltRefusal.TheVariants.{Empty, TooLong}
 use Rattle.altsvc_grammar.specs.declared.alt_key.AltKey.{AltKey}
 use Rattle.altsvc_grammar.specs.declared.alt.Alt.{Alt}
@@ -22,11 +24,6 @@ keys_kept (e ∷ es) = e.0 ∷ keys_kept es
 abbrev alts_kept : List (AltKey × Terms) → List Alt
 alts_kept es = map alt_of es
 
-or_assoc : (a b : Bool) → (a || b) || false ≡ (a || b)
-or_assoc true b = refl
-or_assoc false true = refl
-or_assoc false false = refl
-
 clear_seen : (es : List Element) (seen : Seen) → (see_all seen es).clear ≡ (seen.clear || list_any is_clear es)
 clear_seen [] seen = none seen.clear
   where
@@ -44,23 +41,15 @@ there_is : (key : AltKey) (kept : List (AltKey × Terms)) → list_any (λ (e : 
 there_is key [] = refl
 there_is key (e ∷ es) = ap (λ t. key_eq key e.0 || t) (there_is key es)
 
-alts_append : (xs ys : List (AltKey × Terms)) → alts_kept (xs ++ ys) ≡ alts_kept xs ++ alts_kept ys
-alts_append [] ys = refl
-alts_append (x ∷ xs) ys = ap (λ as'. alt_of x ∷ as') (alts_append xs ys)
-
 keys_append : (xs ys : List (AltKey × Terms)) → keys_kept (xs ++ ys) ≡ keys_kept xs ++ keys_kept ys
 keys_append [] ys = refl
 keys_append (x ∷ xs) ys = ap (λ ks. x.0 ∷ ks) (keys_append xs ys)
-
-no_more : (xs : List Alt) → xs ++ [] ≡ xs
-no_more [] = refl
-no_more (x ∷ xs) = ap (λ ys. x ∷ ys) (no_more xs)
 
 abbrev key_of : Alternative → AltKey
 key_of a = record { proto = a.proto; host = a.host; port = a.port }
 
 kept_seen : (es : List Element) (seen : Seen) → alts_kept (see_all seen es).kept ≡ alts_kept seen.kept ++ firsts (keys_kept seen.kept) (alternatives_of es)
-kept_seen [] seen = sym (no_more (alts_kept seen.kept))
+kept_seen [] seen = sym (append-nil (alts_kept seen.kept))
 kept_seen (Clear ∷ es) seen = kept_seen es (see seen (element_meant Clear))
 kept_seen (Offered a ∷ es) seen = go (key_in (key_of a) (keys_kept seen.kept)) refl (λ next. kept_seen es next)
   where
@@ -78,7 +67,7 @@ kept_seen (Offered a ∷ es) seen = go (key_in (key_of a) (keys_kept seen.kept))
         let after : List (AltKey × Terms) → Seen = λ kept. record { clear = seen.clear; kept = kept } in
         ap (λ kept. alts_kept (see_all (after kept) es).kept) more
         ∙ rest (after (seen.kept ++ (key_of a, terms) ∷ []))
-        ∙ ap₂ (λ xs ks. xs ++ firsts ks (alternatives_of es)) (alts_append seen.kept ((key_of a, terms) ∷ [])) (keys_append seen.kept ((key_of a, terms) ∷ []))
+        ∙ ap₂ (λ xs ks. xs ++ firsts ks (alternatives_of es)) (map-append alt_of seen.kept ((key_of a, terms) ∷ [])) (keys_append seen.kept ((key_of a, terms) ∷ []))
         ∙ append_assoc (alts_kept seen.kept) (alt_meant a ∷ []) (firsts (keys_kept seen.kept ++ key_of a ∷ []) (alternatives_of es))
 
 -- a value of what was seen
@@ -100,17 +89,11 @@ value_meant n es some = rw (clear_seen es nothing_seen) (go (list_any is_clear e
         let kept : alts_kept (see_all nothing_seen es).kept ≡ firsts [] (alternatives_of es) = kept_seen es nothing_seen in
         some_listed n (see_all nothing_seen es).kept (λ e. no_clear_some es some is (sym kept ∙ e)) ∙ ap (λ xs. Ok (value.List xs)) kept
 
-not_long : (n : ℕ) → n ≤ most_bytes → nat_lt most_bytes n ≡ false
-not_long n h = grind arith
-
-too_long : (n : ℕ) → most_bytes < n → nat_lt most_bytes n ≡ true
-too_long n h = grind arith
-
 pub short_read : (x : List ℕ) → length x ≤ most_bytes → read_value x ≡ value_of_seen (length x) (read_elements (length x + 1) (length x + 1) nothing_seen 0 x)
-short_read x short = rw (not_long (length x) short) refl
+short_read x short = rw (lt_false most_bytes (length x) short) refl
 
 pub long_read : (x : List ℕ) → most_bytes < length x → read_value x ≡ refused most_bytes TooLong
-long_read x long = rw (too_long (length x) long) refl
+long_read x long = rw (lt_true most_bytes (length x) long) refl
 
 spelled_at : (ss : List Slot) (last : Slot) → AreSlots ss → IsSlot last → length (slots_before ss (slot_then last [])) ≤ most_bytes → elements_of (ss ++ last ∷ []) ≢ []
     → read_value (slots_before ss (slot_then last [])) ≡ Ok (meaning (elements_of (ss ++ last ∷ [])))

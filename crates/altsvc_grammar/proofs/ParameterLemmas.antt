@@ -1,5 +1,6 @@
 -- The steps of reading parameters, in an input from a place on.
-use Rattle.std.proofs.Common.{◌≡◌, ℕ, suc, ◌+◌, ◌-◌, ◌<◌, true, false, List, [], ◌∷◌, length, take, drop, Result, Ok, refl, ap, sym, ◌∙◌, arith}
+use Rattle.std.proofs.Common.{◌≡◌, ℕ, ◌+◌, ◌-◌, ◌<◌, true, false, List, [], ◌∷◌, length, take, drop, Result, Ok, refl, ap, sym, ◌∙◌}
+use Rattle.alt_base.proofs.Numbers.{one_fewer}
 use Rattle.alt_base.specs.declared.refusal.At.{At}
 use Rattle.field_text.specs.BlanksReading.{read_blanks, after_blanks}
 use Rattle.field_text.specs.TokenGrammar.{SpellsToken}
@@ -28,10 +29,7 @@ named_value given p q x s inside equals =
     let taken : take (q - p) (drop p x) ≡ token_of (drop p x) = token_taken p q (drop p x) s in
     said ∙ rw (rest, taken) refl
 
-one_fewer : (n i : ℕ) → i < n → n - i ≡ suc (n - (i + 1))
-one_fewer n i h = omega arith
-
-no_parameter : (more : Given → ℕ → List ℕ → Result (Step Given) (At AltRefusal)) (given : Given) (p : ℕ) (x : List ℕ) → begins_with 59 x ≡ false
+pub no_parameter : (more : Given → ℕ → List ℕ → Result (Step Given) (At AltRefusal)) (given : Given) (p : ℕ) (x : List ℕ) → begins_with 59 x ≡ false
     → parameters_from more given p x ≡ Ok (record { value = given; place = p; rest = x })
 no_parameter more given p [] h = refl
 no_parameter more given p (b ∷ bs) h = rw h refl

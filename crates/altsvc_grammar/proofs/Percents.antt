@@ -1,12 +1,16 @@
 -- The encoded form of a protocol is a token that is read as the protocol, up to the first bad `%`.
-use Rattle.std.proofs.Common.{◌≡◌, ◌≢◌, ℕ, zero, suc, ◌+◌, ◌*◌, ◌/◌, ◌%◌, ◌≤◌, ◌<◌, Bool, true, false, cond, ◌&&◌, not, nat_eq, nat_lt, List, [], ◌∷◌, ◌++◌, length, All, None, Ok, refl, ap, sym, ◌∙◌, arith, length-append, append_assoc}
+use Rattle.std.proofs.Common.{◌≡◌, ℕ, zero, suc, ◌+◌, ◌*◌, ◌/◌, ◌%◌, ◌≤◌, ◌<◌, Bool, true, false, cond, ◌&&◌, not, nat_eq, List, [], ◌∷◌, ◌++◌, length, All, None, Ok, refl, ap, sym, ◌∙◌, arith, length-append, append_assoc}
 use Rattle.std.proofs.lemmas.Bool.Decides.{nat_tests}
 use Rattle.std.proofs.lemmas.List.Elements.{All-head, All-tail}
 use Rattle.std.specs.Fmt.{digit_glyph}
+use Rattle.std.proofs.lemmas.Bool.{not-true}
+use Rattle.std.proofs.lemmas.List.{append-nil}
+use Rattle.alt_base.proofs.Numbers.{false_eq, lt_true, lt_false}
 use Rattle.percent_encoding.specs.Percent.{percent_encode_byte, percent_decode}
 use Rattle.percent_encoding.proofs.PercentLemmas.{percent_decode-nil, percent_decode-percent_encode_byte, percent_decode_not_percent}
 use Rattle.field_text.specs.Runs.{AllIn}
 use Rattle.field_text.specs.TokenGrammar.{is_token}
+use Rattle.field_text.proofs.RunLemmas.{AllIn-append}
 use Rattle.altsvc_grammar.specs.Written.{is_plain, encoded_byte, encoded}
 use Rattle.altsvc_grammar.specs.ProtocolReading.{is_upper_hex, hex_value, is_coded, bad_percent, read_protocol}
 use Rattle.altsvc_grammar.specs.AuthorityGrammar.{IsProtocol}
@@ -50,13 +54,6 @@ glyph d small =
     (record { token = refl; hex = refl; value = refl; no_percent = refl }) (record { token = refl; hex = refl; value = refl; no_percent = refl }) (record { token = refl; hex = refl; value = refl; no_percent = refl }) (record { token = refl; hex = refl; value = refl; no_percent = refl })
     d small
 
-not_true : (b : Bool) → not b ≡ true → b ≡ false
-not_true true h = cc
-not_true false h = refl
-
-eq_to_test : (a b : ℕ) → (nat_eq a b ≡ false) → a ≢ b
-eq_to_test a b h = grind arith
-
 -- the bytes of an escape
 pub high_digit : (b : ℕ) → b / 16 % 16 < 16
 high_digit b = omega arith
@@ -82,16 +79,9 @@ byte_tokens b = go (is_plain b) refl
     go true is = ((both (is_token b) (not (nat_eq b 37)) is).0, tt)
     go false is = (refl, ((glyph (b / 16 % 16) (high_digit b)).token, ((glyph (b % 16) (low_digit b)).token, tt)))
 
-tokens_append : (class : ℕ → Bool) (x y : List ℕ) → AllIn class x → AllIn class y → AllIn class (x ++ y)
-tokens_append class [] y h k = k
-tokens_append class (b ∷ bs) y h k = (h.0, tokens_append class bs y h.1 k)
-
 pub encoded_tokens : (bs : List ℕ) → AllIn is_token (encoded bs)
 encoded_tokens [] = tt
-encoded_tokens (b ∷ bs) = tokens_append is_token (encoded_byte b) (encoded bs) (byte_tokens b) (encoded_tokens bs)
-
-pub all_append : (class : ℕ → Bool) (x y : List ℕ) → AllIn class x → AllIn class y → AllIn class (x ++ y)
-all_append class x y h k = tokens_append class x y h k
+encoded_tokens (b ∷ bs) = AllIn-append is_token (encoded_byte b) (encoded bs) (byte_tokens b) (encoded_tokens bs)
 
 -- a good byte is passed
 byte_passed : (p b : ℕ) (y : List ℕ) → b < 256 → bad_percent p (encoded_byte b ++ y) ≡ bad_percent (p + length (encoded_byte b)) y
@@ -99,7 +89,7 @@ unfolding percent_encode_byte
 byte_passed p b y small = go (is_plain b) refl
   where
     go : (t : Bool) → is_plain b ≡ t → bad_percent p (cond t (b ∷ []) (percent_encode_byte b) ++ y) ≡ bad_percent (p + length (cond t (b ∷ []) (percent_encode_byte b))) y
-    go true is = let no = not_true (nat_eq b 37) (both (is_token b) (not (nat_eq b 37)) is).1 in rw no refl
+    go true is = let no = not-true (nat_eq b 37) (both (is_token b) (not (nat_eq b 37)) is).1 in rw no refl
     go false is =
         let three : p + 1 + 1 + 1 ≡ p + 3 = omega arith in
         rw (escape_coded b y small is, (glyph (b / 16 % 16) (high_digit b)).no_percent, (glyph (b % 16) (low_digit b)).no_percent) (ap (λ q. bad_percent q y) three)
@@ -115,31 +105,21 @@ byte_decoded : (b : ℕ) (y : List ℕ) → b < 256 → percent_decode (encoded_
 byte_decoded b y small = go (is_plain b) refl
   where
     go : (t : Bool) → is_plain b ≡ t → percent_decode (cond t (b ∷ []) (percent_encode_byte b) ++ y) ≡ b ∷ percent_decode y
-    go true is = percent_decode_not_percent b y (eq_to_test b 37 (not_true (nat_eq b 37) (both (is_token b) (not (nat_eq b 37)) is).1))
+    go true is = percent_decode_not_percent b y (false_eq b 37 (not-true (nat_eq b 37) (both (is_token b) (not (nat_eq b 37)) is).1))
     go false is = percent_decode-percent_encode_byte b y small
 
 pub encoded_decoded : (bs : List ℕ) → All (λ b. b < 256) bs → percent_decode (encoded bs) ≡ bs
 encoded_decoded [] small = percent_decode-nil
 encoded_decoded (b ∷ bs) small = byte_decoded b (encoded bs) (All-head (λ c. c < 256) b bs small) ∙ ap (λ cs. b ∷ cs) (encoded_decoded bs (All-tail (λ c. c < 256) b bs small))
 
-not_above : (n : ℕ) → n ≤ 255 → nat_lt 255 n ≡ false
-not_above n h = grind arith
-
-above : (n : ℕ) → 255 < n → nat_lt 255 n ≡ true
-above n h = grind arith
-
-no_more : (bs : List ℕ) → bs ++ [] ≡ bs
-no_more [] = refl
-no_more (b ∷ bs) = ap (λ cs. b ∷ cs) (no_more bs)
-
 none_bad : (p : ℕ) (bs : List ℕ) → All (λ b. b < 256) bs → bad_percent p (encoded bs) ≡ None
-none_bad p bs small = ap (bad_percent p) (sym (no_more (encoded bs))) ∙ encoded_passed bs p [] small
+none_bad p bs small = ap (bad_percent p) (sym (append-nil (encoded bs))) ∙ encoded_passed bs p [] small
 
 pub protocol_read : (p : ℕ) (proto : List ℕ) → IsProtocol proto → read_protocol p (encoded proto) ≡ Ok proto
-protocol_read p proto is = rw (none_bad p proto is.bytes, encoded_decoded proto is.bytes, not_above (length proto) is.short) refl
+protocol_read p proto is = rw (none_bad p proto is.bytes, encoded_decoded proto is.bytes, lt_false 255 (length proto) is.short) refl
 
 pub long_protocol_read : (p : ℕ) (proto : List ℕ) → All (λ b. b < 256) proto → 255 < length proto → read_protocol p (encoded proto) ≡ refused p BadToken
-long_protocol_read p proto small long = rw (none_bad p proto small, encoded_decoded proto small, above (length proto) long) refl
+long_protocol_read p proto small long = rw (none_bad p proto small, encoded_decoded proto small, lt_true 255 (length proto) long) refl
 
 -- upper-case hex digits that code a byte are its escape
 hex_below : (h : ℕ) → is_upper_hex h ≡ true → hex_value h < 16
@@ -164,7 +144,7 @@ coded (a ∷ []) h = cc
 coded (a ∷ b ∷ bs) h =
     let outer = both (is_upper_hex a) (is_upper_hex b && not (is_plain (16 * hex_value a + hex_value b))) h in
     let inner = both (is_upper_hex b) (not (is_plain (16 * hex_value a + hex_value b))) outer.1 in
-    let escaped = not_true (is_plain (16 * hex_value a + hex_value b)) inner.1 in
+    let escaped = not-true (is_plain (16 * hex_value a + hex_value b)) inner.1 in
     let low = hex_below a outer.0 in
     let low' = hex_below b inner.0 in
     let parts = of_digits (hex_value a) (hex_value b) low low' in
@@ -204,5 +184,5 @@ encoded_token bs some = record { some = λ e. absurd (omega (arith, encoded_leng
 pub bad_token : (good more : List ℕ) → AllIn is_token more → IsToken (encoded good ++ 37 ∷ more)
 bad_token good more valid = record {
   some = λ e. absurd (omega (arith, length-append (encoded good) (37 ∷ more), ap length e));
-  valid = all_append is_token (encoded good) (37 ∷ more) (encoded_tokens good) (refl, valid);
+  valid = AllIn-append is_token (encoded good) (37 ∷ more) (encoded_tokens good) (refl, valid);
 }

@@ -8,9 +8,14 @@ use Rattle.std.specs.Char.{is_ascii_digit, digit_value}
 use Rattle.std.specs.Fmt.{decimal}
 use Rattle.std.specs.Str.Parse.{AllDigits, digits_value}
 use Rattle.std.specs.Net.Grammar.{IsDotted, IsGroupsAfter, IsColonHex}
+use Rattle.std.proofs.lemmas.Bool.{and_from, not-true}
+use Rattle.std.proofs.Math.Bool.{and-false}
+use Rattle.alt_base.proofs.Booleans.{contradicts, third_of_four}
+use Rattle.alt_base.proofs.Numbers.{true_eq, le_true, le_false, true_le, false_le}
 use Rattle.alt_base.specs.Classes.{in_ranges, host_name_class}
 use Rattle.field_text.specs.Runs.{AllIn}
 use Rattle.field_text.specs.QuotedGrammar.{is_quoted_text}
+use Rattle.field_text.proofs.RunLemmas.{AllIn-append}
 use Rattle.origin_values.specs.HostGrammar.{SpellsName, SpellsHost}
 use Rattle.origin_values.specs.HostReading.{are_labels}
 use Rattle.origin_values.specs.Valid.{IsHost}
@@ -19,31 +24,7 @@ use Rattle.origin_values.specs.declared.host.Host.{Host}
 use Rattle.origin_values.specs.declared.host.Host.TheVariants.{Name, V4, V6}
 use Rattle.origin_values.proofs.Names.{name_labels}
 use Rattle.origin_values.proofs.HostTexts.{host_written}
-use Rattle.altsvc_grammar.proofs.Percents.{all_append}
 use Rattle.alt_base.proofs.Conjunctions.{both}
-
-le_test : (a b : ℕ) → a ≤ b → nat_le a b ≡ true
-le_test a b h = grind arith
-
-not_le : (a b : ℕ) → b < a → nat_le a b ≡ false
-not_le a b h = grind arith
-
-le_fact : (a b : ℕ) → nat_le a b ≡ true → a ≤ b
-le_fact a b h = grind arith
-
-lt_fact : (a b : ℕ) → nat_le a b ≡ false → b < a
-lt_fact a b h = grind arith
-
-eq_fact : (a b : ℕ) → nat_eq a b ≡ true → a ≡ b
-eq_fact a b h = grind arith
-
-not_eq_fact : (a b : ℕ) → nat_eq a b ≡ false → a ≢ b
-not_eq_fact a b h = grind arith
-
-third_in : (a b c d : Bool) → c ≡ true → (a || (b || (c || d))) ≡ true
-third_in true b c d h = refl
-third_in false true c d h = refl
-third_in false false c d h = rw h refl
 
 fourth_in : (a b c d e : Bool) → d ≡ true → (a || (b || (c || (d || e)))) ≡ true
 fourth_in true b c d e h = refl
@@ -51,23 +32,18 @@ fourth_in false true c d e h = refl
 fourth_in false false true d e h = refl
 fourth_in false false false d e h = rw h refl
 
-and_from : (a b : Bool) → a ≡ true → b ≡ true → (a && b) ≡ true
-and_from true true h k = refl
-and_from true false h k = cc
-and_from false b h k = cc
-
 low_quoted : (b : ℕ) → 35 ≤ b → b ≤ 91 → is_quoted_text b ≡ true
-low_quoted b low high = third_in (nat_le 9 b && nat_le b 9) (nat_le 32 b && nat_le b 33) (nat_le 35 b && nat_le b 91) ((nat_le 93 b && nat_le b 126) || ((nat_le 128 b && nat_le b 255) || false)) (and_from (nat_le 35 b) (nat_le b 91) (le_test 35 b low) (le_test b 91 high))
+low_quoted b low high = third_of_four (nat_le 9 b && nat_le b 9) (nat_le 32 b && nat_le b 33) (nat_le 35 b && nat_le b 91) ((nat_le 93 b && nat_le b 126) || ((nat_le 128 b && nat_le b 255) || false)) (and_from (nat_le 35 b) (nat_le b 91) (le_true 35 b low) (le_true b 91 high))
 
 high_quoted : (b : ℕ) → 93 ≤ b → b ≤ 126 → is_quoted_text b ≡ true
-high_quoted b low high = fourth_in (nat_le 9 b && nat_le b 9) (nat_le 32 b && nat_le b 33) (nat_le 35 b && nat_le b 91) (nat_le 93 b && nat_le b 126) ((nat_le 128 b && nat_le b 255) || false) (and_from (nat_le 93 b) (nat_le b 126) (le_test 93 b low) (le_test b 126 high))
+high_quoted b low high = fourth_in (nat_le 9 b && nat_le b 9) (nat_le 32 b && nat_le b 33) (nat_le 35 b && nat_le b 91) (nat_le 93 b && nat_le b 126) ((nat_le 128 b && nat_le b 255) || false) (and_from (nat_le 93 b) (nat_le b 126) (le_true 93 b low) (le_true b 126 high))
 
 pub graphic_quoted : (b : ℕ) → 35 ≤ b → b ≤ 126 → b ≢ 92 → is_quoted_text b ≡ true
 graphic_quoted b low high other = go (nat_le b 91) refl
   where
     go : (t : Bool) → nat_le b 91 ≡ t → is_quoted_text b ≡ true
-    go true is = low_quoted b low (le_fact b 91 is)
-    go false is = let above : 91 < b = lt_fact b 91 is in high_quoted b (omega arith) high
+    go true is = low_quoted b low (true_le b 91 is)
+    go false is = let above : 91 < b = false_le b 91 is in high_quoted b (omega arith) high
 
 -- digits
 digit_quoted : (b : ℕ) → digit_value b < 16 → is_quoted_text b ≡ true
@@ -101,7 +77,7 @@ decimal_quoted n small = digits_in is_quoted_text digit_quoted 10 (decimal n) (o
 -- addresses
 dotted_in : (class : ℕ → Bool) (digit : (b : ℕ) → digit_value b < 16 → class b ≡ true) (dot : class 46 ≡ true) (text octets : List ℕ) → IsDotted text octets → AllIn class text
 dotted_in class digit dot text octets s =
-    let join = all_append class in
+    let join = AllIn-append class in
     let point : AllIn class (codes ".") = (dot, tt) in
     let x1 = decimal s.a ++ codes "." in
     let x2 = x1 ++ decimal s.b in
@@ -119,41 +95,34 @@ groups_in : (class : ℕ → Bool) (digit : (b : ℕ) → digit_value b < 16 →
 groups_in class digit dot colon ipv4 lead text [] h s = subst (AllIn class) (sym s) tt
 groups_in class digit dot colon ipv4 lead text (seg ∷ segments) h (inl s) =
     let group = digits_in class digit 16 s.0 (omega arith) s.3.0.0.1 in
-    subst (AllIn class) (sym s.2) (all_append class (lead ++ s.0) s.1 (all_append class lead s.0 h group) (groups_in class digit dot colon ipv4 (codes ":") s.1 segments (colon, tt) s.4))
+    subst (AllIn class) (sym s.2) (AllIn-append class (lead ++ s.0) s.1 (AllIn-append class lead s.0 h group) (groups_in class digit dot colon ipv4 (codes ":") s.1 segments (colon, tt) s.4))
 groups_in class digit dot colon ipv4 lead text (seg ∷ segments) h (inr s) =
-    subst (AllIn class) (sym s.3) (all_append class lead s.0 h (dotted_in class digit dot s.0 s.1 s.4))
+    subst (AllIn class) (sym s.3) (AllIn-append class lead s.0 h (dotted_in class digit dot s.0 s.1 s.4))
 
 hex_in : (class : ℕ → Bool) (digit : (b : ℕ) → digit_value b < 16 → class b ≡ true) (dot : class 46 ≡ true) (colon : class 58 ≡ true) (text segments : List ℕ) → IsColonHex text segments → AllIn class text
 hex_in class digit dot colon text segments (inl s) = groups_in class digit dot colon true [] text segments tt s.0
 hex_in class digit dot colon text segments (inr s) =
     let two : AllIn class (codes "::") = (colon, (colon, tt)) in
-    subst (AllIn class) (sym s.spelled) (all_append class (s.head_text ++ codes "::") s.tail_text (all_append class s.head_text (codes "::") (groups_in class digit dot colon false [] s.head_text s.head tt s.head_groups) two) (groups_in class digit dot colon true [] s.tail_text s.tail tt s.tail_groups))
+    subst (AllIn class) (sym s.spelled) (AllIn-append class (s.head_text ++ codes "::") s.tail_text (AllIn-append class s.head_text (codes "::") (groups_in class digit dot colon false [] s.head_text s.head tt s.head_groups) two) (groups_in class digit dot colon true [] s.tail_text s.tail tt s.tail_groups))
 
 -- names
-and_none : (a : Bool) → (a && false) ≡ false
-and_none true = refl
-and_none false = refl
-
-both_ways : (b : Bool) → b ≡ true → b ≡ false → ⊥
-both_ways b holds fails = cc
-
 name_byte_quoted : (b : ℕ) → in_ranges host_name_class b ≡ true → is_quoted_text b ≡ true
-name_byte_quoted b h = graphic_quoted b (low (nat_le 35 b) refl) (high (nat_le b 126) refl) (λ e. both_ways (in_ranges host_name_class 92) (subst (λ c. in_ranges host_name_class c ≡ true) e h) refl)
+name_byte_quoted b h = graphic_quoted b (low (nat_le 35 b) refl) (high (nat_le b 126) refl) (λ e. contradicts (in_ranges host_name_class 92) (subst (λ c. in_ranges host_name_class c ≡ true) e h) refl)
   where
     below : b < 35 → in_ranges host_name_class b ≡ false
-    below i = rw (not_le 45 b (omega arith), not_le 48 b (omega arith), not_le 65 b (omega arith), not_le 95 b (omega arith), not_le 97 b (omega arith)) refl
+    below i = rw (le_false 45 b (omega arith), le_false 48 b (omega arith), le_false 65 b (omega arith), le_false 95 b (omega arith), le_false 97 b (omega arith)) refl
 
     above : 126 < b → in_ranges host_name_class b ≡ false
-    above i = rw (not_le b 45 (omega arith), not_le b 57 (omega arith), not_le b 90 (omega arith), not_le b 95 (omega arith), not_le b 122 (omega arith))
-        (rw (and_none (nat_le 45 b), and_none (nat_le 48 b), and_none (nat_le 65 b), and_none (nat_le 95 b), and_none (nat_le 97 b)) refl)
+    above i = rw (le_false b 45 (omega arith), le_false b 57 (omega arith), le_false b 90 (omega arith), le_false b 95 (omega arith), le_false b 122 (omega arith))
+        (rw (and-false (nat_le 45 b), and-false (nat_le 48 b), and-false (nat_le 65 b), and-false (nat_le 95 b), and-false (nat_le 97 b)) refl)
 
     low : (t : Bool) → nat_le 35 b ≡ t → 35 ≤ b
-    low true is = le_fact 35 b is
-    low false is = absurd (both_ways (in_ranges host_name_class b) h (below (lt_fact 35 b is)))
+    low true is = true_le 35 b is
+    low false is = contradicts (in_ranges host_name_class b) h (below (false_le 35 b is))
 
     high : (t : Bool) → nat_le b 126 ≡ t → b ≤ 126
-    high true is = le_fact b 126 is
-    high false is = absurd (both_ways (in_ranges host_name_class b) h (above (lt_fact b 126 is)))
+    high true is = true_le b 126 is
+    high false is = contradicts (in_ranges host_name_class b) h (above (false_le b 126 is))
 
 labels_in : (class : ℕ → Bool) (name : (b : ℕ) → in_ranges host_name_class b ≡ true → class b ≡ true) (dot : class 46 ≡ true) (text : List ℕ) (count : ℕ) (digits : Bool) → are_labels count digits text ≡ true → AllIn class text
 labels_in class name dot [] count digits h = tt
@@ -161,7 +130,7 @@ labels_in class name dot (b ∷ bs) count digits h = go (nat_eq b 46) refl h (λ
   where
     go : (t : Bool) → nat_eq b 46 ≡ t → cond t (nat_lt 0 count && are_labels 0 true bs) (nat_lt count 63 && (in_ranges host_name_class b && are_labels (count + 1) (digits && is_ascii_digit b) bs)) ≡ true
         → ((c : ℕ) (d : Bool) → are_labels c d bs ≡ true → AllIn class bs) → (class b ≡ true) × AllIn class bs
-    go true is h rest = (subst (λ c. class c ≡ true) (sym (eq_fact b 46 is)) dot, rest 0 true (both (nat_lt 0 count) (are_labels 0 true bs) h).1)
+    go true is h rest = (subst (λ c. class c ≡ true) (sym (true_eq b 46 is)) dot, rest 0 true (both (nat_lt 0 count) (are_labels 0 true bs) h).1)
     go false is h rest =
         let inner = (both (nat_lt count 63) (in_ranges host_name_class b && are_labels (count + 1) (digits && is_ascii_digit b) bs) h).1 in
         let tests = both (in_ranges host_name_class b) (are_labels (count + 1) (digits && is_ascii_digit b) bs) inner in
@@ -174,7 +143,7 @@ spelled_quoted text (V6 bytes) s =
     let opening : AllIn is_quoted_text (codes "[") = (refl, tt) in
     let closing : AllIn is_quoted_text (codes "]") = (refl, tt) in
     let inner = hex_in is_quoted_text digit_quoted refl refl s.inner s.address.groups s.address.spelled in
-    subst (AllIn is_quoted_text) (sym s.spelled) (all_append is_quoted_text (codes "[" ++ s.inner) (codes "]") (all_append is_quoted_text (codes "[") s.inner opening inner) closing)
+    subst (AllIn is_quoted_text) (sym s.spelled) (AllIn-append is_quoted_text (codes "[" ++ s.inner) (codes "]") (AllIn-append is_quoted_text (codes "[") s.inner opening inner) closing)
 
 pub host_quoted : (host : Host) → IsHost host → AllIn is_quoted_text (host_text host)
 host_quoted host valid = spelled_quoted (host_text host) host (host_written host valid)
@@ -187,23 +156,19 @@ other_digit : (byte b : ℕ) → (digit_value byte < 16 → ⊥) → digit_value
 other_digit byte b none h = go (nat_eq b byte) refl
   where
     go : (t : Bool) → nat_eq b byte ≡ t → not t ≡ true
-    go true is = absurd (none (subst (λ d. digit_value d < 16) (eq_fact b byte is) h))
+    go true is = absurd (none (subst (λ d. digit_value d < 16) (true_eq b byte is) h))
     go false is = refl
 
 other_name : (byte b : ℕ) → in_ranges host_name_class byte ≡ false → in_ranges host_name_class b ≡ true → is_other byte b ≡ true
 other_name byte b none h = go (nat_eq b byte) refl
   where
     go : (t : Bool) → nat_eq b byte ≡ t → not t ≡ true
-    go true is = absurd (both_ways (in_ranges host_name_class byte) (subst (λ d. in_ranges host_name_class d ≡ true) (eq_fact b byte is) h) none)
+    go true is = contradicts (in_ranges host_name_class byte) (subst (λ d. in_ranges host_name_class d ≡ true) (true_eq b byte is) h) none
     go false is = refl
 
 pub none_of : (byte : ℕ) (x : List ℕ) → AllIn (is_other byte) x → list_any (λ b. nat_eq b byte) x ≡ false
 none_of byte [] h = refl
-none_of byte (b ∷ bs) h = rw (not_true (nat_eq b byte) h.0) (none_of byte bs h.1)
-  where
-    not_true : (t : Bool) → not t ≡ true → t ≡ false
-    not_true true h = cc
-    not_true false h = refl
+none_of byte (b ∷ bs) h = rw (not-true (nat_eq b byte) h.0) (none_of byte bs h.1)
 
 -- a name and an IPv4 address have neither a colon nor an opening bracket, and an IPv6 address has no closing one
 pub name_without : (byte : ℕ) (text name : List ℕ) → in_ranges host_name_class byte ≡ false → is_other byte 46 ≡ true → SpellsName text name → list_any (λ b. nat_eq b byte) text ≡ false

@@ -1,5 +1,6 @@
 -- The reading of a value that the table refuses.
-use Rattle.std.proofs.Common.{◌≡◌, ◌≢◌, ◌⊎◌, ℕ, ◌+◌, ◌-◌, ◌≤◌, ◌<◌, false, nat_eq, List, [], ◌∷◌, ◌++◌, length, Result, refl, ap, sym, ◌∙◌, subst, arith, append_assoc, inl, inr}
+use Rattle.std.proofs.Common.{◌≡◌, ◌≢◌, ◌⊎◌, ℕ, ◌+◌, ◌-◌, ◌≤◌, ◌<◌, false, List, [], ◌∷◌, ◌++◌, length, Result, refl, ap, sym, ◌∙◌, subst, arith, append_assoc, inl, inr}
+use Rattle.alt_base.proofs.Numbers.{eq_false}
 use Rattle.alt_base.specs.declared.refusal.At.{At}
 use Rattle.field_text.specs.Runs.{BeginsIn}
 use Rattle.field_text.specs.BlanksGrammar.{is_blank}
@@ -11,6 +12,7 @@ use Rattle.altsvc_grammar.specs.ParameterGrammar.{IsToken}
 use Rattle.altsvc_grammar.specs.ValueReading.{Seen, read_element, element_seen, after_element, then_elements, value_of_seen, read_value, most_bytes}
 use Rattle.altsvc_grammar.specs.ValueGrammar.{slots_before, Element, Clear, Offered, element_then}
 use Rattle.altsvc_grammar.specs.ValueRefusals.{Begins, IsNoToken, IsLongProtocol, IsNoEquals, IsBadPercent, IsBadQuoted, IsBadAuthority, IsBadParameter, IsTrailing, EndsElement, ValueRefusedAt}
+use Rattle.altsvc_grammar.proofs.Fronts.{front_false}
 use Rattle.altsvc_grammar.proofs.Spelling.{no_blank_front, no_comma_front, quoted_then}
 use Rattle.altsvc_grammar.proofs.Percents.{encoded_token, bad_token}
 use Rattle.altsvc_grammar.proofs.SpelledElements.{Ends, element_read, no_token_read, no_equals_read, bad_percent_element, bad_quoted_read, bad_authority_read, bad_parameter_read}
@@ -31,11 +33,8 @@ token_some (b ∷ bs) rest h = omega arith
 token_front : (t rest : List ℕ) → IsToken t → Front (t ++ rest)
 token_front t rest h = record { no_blank = no_blank_front t rest h; some = token_some t rest h; no_comma = no_comma_front t rest h }
 
-not_eq_test : (a b : ℕ) → a ≢ b → nat_eq a b ≡ false
-not_eq_test a b h = grind arith
-
 byte_front : (b : ℕ) (rest : List ℕ) → is_blank b ≡ false → b ≢ 44 → Front (b ∷ rest)
-byte_front b rest blank comma = record { no_blank = λ h. cc; some = omega arith; no_comma = not_eq_test b 44 comma }
+byte_front b rest blank comma = record { no_blank = λ h. cc; some = omega arith; no_comma = eq_false b 44 comma }
 
 -- what such an element does to the whole
 Says : List ℕ → List ℕ → ℕ → AltRefusal → Type 0
@@ -56,11 +55,11 @@ element_says x y q r err = λ most p long place more seen. ap (λ s. then_elemen
 
 -- something behind an element
 other_behind : (more : Seen → ℕ → List ℕ → Result Seen (At AltRefusal)) (seen : Seen) (p byte : ℕ) (rest : List ℕ) → byte ≢ 44 → after_element more seen p (byte ∷ rest) ≡ refused p Trailing
-other_behind more seen p byte rest other = rw (not_eq_test byte 44 other) refl
+other_behind more seen p byte rest other = rw (eq_false byte 44 other) refl
 
 ends_there : (e : Element) (w rest : List ℕ) (byte : ℕ) → EndsElement e w byte → Ends e w (byte ∷ rest)
-ends_there Clear w rest byte h = h
-ends_there (Offered a) w rest byte h = (h.0, not_eq_test byte 59 h.1)
+ends_there Clear w rest byte h = (h.0, front_false 61 w h.1)
+ends_there (Offered a) w rest byte h = (h.0, eq_false byte 59 h.1)
 
 trailing_says : (x y : List ℕ) (q : ℕ) → IsTrailing (length x) y q → Says x y q Trailing
 unfolding Says
@@ -90,7 +89,7 @@ long_refused x y q b t short =
 no_equals_refused : (x y : List ℕ) (q : ℕ) → Begins x y → IsNoEquals (length x) y q → length x ≤ most_bytes → read_value x ≡ refused q NoEquals
 no_equals_refused x y q b t short =
     whole_refused x y q NoEquals b (front_of y (t.token ++ t.rest) t.text (token_front t.token t.rest t.valid))
-    (element_says x y q NoEquals (λ most p long place. rw t.text (no_equals_read most (length x) p q t.token t.rest t.valid t.no_clear t.longest t.no_equals t.place (subst (λ xs. p + length xs ≡ length x) t.text place)))) short
+    (element_says x y q NoEquals (λ most p long place. rw t.text (no_equals_read most (length x) p q t.token t.rest t.valid t.no_clear t.longest (front_false 61 t.rest t.no_equals) t.place (subst (λ xs. p + length xs ≡ length x) t.text place)))) short
 
 bad_percent_refused : (x y : List ℕ) (q : ℕ) → Begins x y → IsBadPercent (length x) y q → length x ≤ most_bytes → read_value x ≡ refused q BadPercent
 bad_percent_refused x y q b t short =

@@ -1,6 +1,8 @@
 -- Reading an element that is spelled so, or that is refused.
-use Rattle.std.proofs.Common.{◌≡◌, ◌≢◌, ℕ, suc, ◌+◌, ◌-◌, ◌≤◌, ◌<◌, Bool, true, false, ◌&&◌, nat_eq, List, [], ◌∷◌, ◌++◌, length, codes, All, Option, Ok, refl, ap, sym, ◌∙◌, subst, arith, length-append, append_assoc}
+use Rattle.std.proofs.Common.{◌≡◌, ◌≢◌, ℕ, suc, ◌+◌, ◌-◌, ◌≤◌, ◌<◌, Bool, true, false, nat_eq, List, [], ◌∷◌, ◌++◌, length, codes, All, Option, Ok, refl, ap, sym, ◌∙◌, subst, arith, length-append, append_assoc}
 use Rattle.std.specs.Cmp.Lexicographic.{pointwise}
+use Rattle.alt_base.proofs.Lists.{true_text}
+use Rattle.altsvc_grammar.proofs.ElementLemmas.{no_equals}
 use Rattle.field_text.specs.declared.text_refusal.TextRefusal.{TextRefusal}
 use Rattle.field_text.specs.declared.text_refusal.TextRefusal.TheVariants.{Empty}
 use Rattle.field_text.specs.Runs.{AllIn, BeginsIn}
@@ -28,10 +30,7 @@ use Rattle.altsvc_grammar.specs.ValueGrammar.{Alternative, alternative_then, IsA
 use Rattle.altsvc_grammar.proofs.Spelling.{blanks_end, blanks_place, no_token_front, token_read, token_is, token_after, quoted_then, quoted_read, quoted_is, quoted_after}
 use Rattle.altsvc_grammar.proofs.Percents.{protocol_read, long_protocol_read, bad_percent_read, encoded_token, bad_token}
 use Rattle.altsvc_grammar.proofs.Authorities.{authority_read, no_authority}
-use Rattle.altsvc_grammar.proofs.SpelledParameters.{value_length, more_than, noted_all, parameters_prefix, parameters_done, semicolon_read, terms_meant, meant_terms, refusal_read, refusal_front}
-
-no_equals_front : (y : List ℕ) → BeginsIn is_token (61 ∷ y) → ⊥
-no_equals_front y h = cc
+use Rattle.altsvc_grammar.proofs.SpelledParameters.{no_equals_front, value_length, more_than, noted_all, parameters_prefix, parameters_done, semicolon_read, terms_meant, refusal_read, refusal_front}
 
 -- a token in front
 pub by_token : (most n p : ℕ) (t y : List ℕ) → IsToken t → (BeginsIn is_token y → ⊥) → p + length (t ++ y) ≡ n
@@ -43,10 +42,6 @@ by_token most n p t y valid ends place =
 pub by_equals : (most n p : ℕ) (t y : List ℕ) → IsToken t → p + length (t ++ 61 ∷ y) ≡ n
     → read_element most p (t ++ 61 ∷ y) ≡ with_protocol most (n - length (61 ∷ y) + 1) y (read_protocol p t)
 by_equals most n p t y valid place = by_token most n p t (61 ∷ y) valid (no_equals_front y) place
-
-no_equals : (most p q : ℕ) (token x : List ℕ) → begins_with 61 x ≡ false → after_element_token most p token q x ≡ lone_token token q x
-no_equals most p q token [] none = refl
-no_equals most p q token (b ∷ bs) none = rw none refl
 
 pub clear_token : IsToken (codes "clear")
 clear_token = record { some = λ e. cc; valid = (refl, (refl, (refl, (refl, (refl, tt))))) }
@@ -60,24 +55,11 @@ clear_read most n p blanks tail valid ends no_token none place =
     let there : read_blanks (n - length w) w ≡ n - length tail = blanks_place n (n - length w) w inside ∙ ap (λ xs. n - length xs) behind in
     by_token most n p (codes "clear") w clear_token no_token place ∙ no_equals most p (n - length w) (codes "clear") w none ∙ rw (there, behind) refl
 
-pub pointwise_is : (a b : List ℕ) → pointwise nat_eq a b ≡ true → a ≡ b
-pointwise_is [] [] h = refl
-pointwise_is [] (b ∷ bs) h = cc
-pointwise_is (a ∷ more) [] h = cc
-pointwise_is (a ∷ more) (b ∷ bs) h = go (nat_eq a b) refl h (pointwise_is more bs)
-  where
-    eq_fact : (x y : ℕ) → nat_eq x y ≡ true → x ≡ y
-    eq_fact x y h = grind arith
-
-    go : (t : Bool) → nat_eq a b ≡ t → (t && pointwise nat_eq more bs) ≡ true → (pointwise nat_eq more bs ≡ true → more ≡ bs) → a ∷ more ≡ b ∷ bs
-    go true is rest rec = let head = eq_fact a b is in let tail = rec rest in cc
-    go false is rest rec = cc
-
 not_clear : (t : List ℕ) (place : ℕ) (rest : List ℕ) → t ≢ codes "clear" → lone_token t place rest ≡ refused place NoEquals
 not_clear t place rest other = go (pointwise nat_eq t (codes "clear")) refl
   where
     go : (b : Bool) → pointwise nat_eq t (codes "clear") ≡ b → lone_token t place rest ≡ refused place NoEquals
-    go true is = absurd (other (pointwise_is t (codes "clear") is))
+    go true is = absurd (other (true_text t (codes "clear") is))
     go false is = rw is refl
 
 pub no_equals_read : (most n p q : ℕ) (t y : List ℕ) → IsToken t → t ≢ codes "clear" → (BeginsIn is_token y → ⊥) → begins_with 61 y ≡ false → q + length y ≡ n → p + length (t ++ y) ≡ n
@@ -104,7 +86,7 @@ by_authority most n p proto parts y valid are place =
 
 abbrev pub element_meant : Element → code.Element
 element_meant Clear = code_element.Clear
-element_meant (Offered a) = code_element.Alternative (record { proto = a.proto; host = a.host; port = a.port }) (meant_terms a.parameters)
+element_meant (Offered a) = code_element.Alternative (record { proto = a.proto; host = a.host; port = a.port }) (record { ma = a.ma; persist = a.persist })
 
 -- an authority behind it
 pub by_parameters : (most n p : ℕ) (a : Alternative) (w : List ℕ) → IsAlternative a → p + length (alternative_then a w) ≡ n
@@ -161,7 +143,7 @@ offered_read n p k a blanks tail valid are front ends none place =
     let from : n - length w + length w ≡ n = omega (arith, alternative_count a w) in
     by_prefix n p (suc k) a w valid ends place
     ∙ ap (with_terms (record { proto = a.proto; host = a.host; port = a.port })) (parameters_done n (n - length w) k (noted_all nothing_given a.parameters) blanks tail are front none from)
-    ∙ rw (terms_meant a.parameters) refl
+    ∙ rw (terms_meant a.parameters a.ma a.persist valid.ma valid.persist) refl
 
 pub element_read : (most n p : ℕ) (e : Element) (blanks tail : List ℕ) → IsElement e → AllIn is_blank blanks → (BeginsIn is_blank tail → ⊥) → Ends e (blanks ++ tail) tail → length (element_then e (blanks ++ tail)) < most
     → p + length (element_then e (blanks ++ tail)) ≡ n

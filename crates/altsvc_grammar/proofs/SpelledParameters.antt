@@ -1,5 +1,6 @@
 -- Reading parameters that are spelled so.
 use Rattle.std.proofs.Common.{◌≡◌, ℕ, suc, ◌+◌, ◌-◌, ◌≤◌, Bool, true, false, cond, List, [], ◌∷◌, ◌++◌, length, codes, Option, Some, None, Result, Ok, refl, ap, ◌∙◌, subst, arith, length-append, inl, inr}
+use Rattle.altsvc_grammar.proofs.ParameterLemmas.{no_parameter}
 use Rattle.alt_base.specs.declared.refusal.At.{At}
 use Rattle.field_text.specs.declared.text_refusal.TextRefusal.{TextRefusal}
 use Rattle.field_text.specs.declared.text_refusal.TextRefusal.TheVariants.{Empty}
@@ -13,10 +14,12 @@ use Rattle.field_text.proofs.QuotedLemmas.{quoted_refused}
 use Rattle.altsvc_grammar.specs.declared.refusal.AltRefusal.{AltRefusal}
 use Rattle.altsvc_grammar.specs.declared.refusal.AltRefusal.TheVariants.{BadParameter}
 use Rattle.altsvc_grammar.specs.declared.given.Given.{Given}
-use Rattle.altsvc_grammar.specs.declared.terms.Terms.{Terms}
 use Rattle.altsvc_grammar.specs.Steps.{Step, begins_with, refused}
 use Rattle.altsvc_grammar.specs.ParameterReading.{is_named, is_one, ma_value, or_else, noted, note, nothing_given, terms_of, value_by_token, value_by_quoted, read_parameter_value, noted_value, after_parameter_name, parameter_by_token, read_parameter, then_parameters, parameters_from, read_parameters}
-use Rattle.altsvc_grammar.specs.ParameterGrammar.{ParameterValue, Token, Quoted, value_then, value_bytes, IsToken, IsParameterValue, EndsValue, Parameter, parameters_then, AreParameters, EndsParameters, first_named, ma_of, ma_said, persist_of, persist_said, ParameterRefused}
+use Rattle.altsvc_grammar.specs.ParameterGrammar.{ParameterValue, Token, Quoted, value_then, value_bytes, IsToken, IsParameterValue, EndsValue, Parameter, parameters_then, AreParameters, EndsParameters, ParameterRefused}
+use Rattle.altsvc_grammar.specs.TermsGrammar.{SaysMa, SaysPersist}
+use Rattle.altsvc_grammar.proofs.ParameterTerms.{first_named, ma_of, ma_said, ma_is, persist_of, persist_said, persist_is}
+use Rattle.altsvc_grammar.proofs.Fronts.{front_false}
 use Rattle.altsvc_grammar.proofs.Spelling.{blanks_end, blanks_place, no_blank_front, no_token_front, token_read, token_is, token_after, quoted_then, quoted_read, quoted_is, quoted_after}
 
 -- a value
@@ -27,7 +30,7 @@ value_read n p (Token t) w valid ends place =
 value_read n p (Quoted parts) w valid ends place =
     ap (value_by_quoted (quoted_then parts w)) (quoted_read n p parts w valid place) ∙ rw (quoted_is parts w valid, quoted_after parts w valid) refl
 
-no_equals_front : (y : List ℕ) → BeginsIn is_token (61 ∷ y) → ⊥
+pub no_equals_front : (y : List ℕ) → BeginsIn is_token (61 ∷ y) → ⊥
 no_equals_front y h = cc
 
 -- a name, `=` and what follows it
@@ -101,11 +104,6 @@ parameters_prefix (q ∷ ps) n p k given w are ends place =
     ∙ ap (then_parameters more) (parameter_read n (n - length z) given q.name q.value rest are.0.name are.0.value (ends_front q ps w are.1 ends) from)
     ∙ parameters_prefix ps n (n - length rest) k (note given q.name (value_bytes q.value)) w are.1 (ends_tail q ps w ends) from'
 
-no_parameter : (more : Given → ℕ → List ℕ → Result (Step Given) (At AltRefusal)) (given : Given) (p : ℕ) (x : List ℕ) → begins_with 59 x ≡ false
-    → parameters_from more given p x ≡ Ok (record { value = given; place = p; rest = x })
-no_parameter more given p [] h = refl
-no_parameter more given p (b ∷ bs) h = rw h refl
-
 -- and no more of them
 pub parameters_done : (n p k : ℕ) (given : Given) (blanks tail : List ℕ) → AllIn is_blank blanks → (BeginsIn is_blank tail → ⊥) → begins_with 59 tail ≡ false → p + length (blanks ++ tail) ≡ n
     → read_parameters (suc k) given p (blanks ++ tail) ≡ Ok (record { value = given; place = n - length tail; rest = tail })
@@ -155,11 +153,9 @@ persist_noted : (ps : List Parameter) (given : Given) → or_else false (noted_a
 persist_noted [] given = persist_none given.persist
 persist_noted (p ∷ ps) given = persist_noted ps (note given p.name (value_bytes p.value)) ∙ persist_step given.persist p ps
 
-abbrev pub meant_terms : List Parameter → Terms
-meant_terms ps = record { ma = ma_of ps; persist = persist_of ps }
-
-pub terms_meant : (ps : List Parameter) → terms_of (noted_all nothing_given ps) ≡ meant_terms ps
-terms_meant ps = rw (ma_noted ps nothing_given, persist_noted ps nothing_given) refl
+-- what they say
+pub terms_meant : (ps : List Parameter) (ma : ℕ) (persist : Bool) → SaysMa ps ma → SaysPersist ps persist → terms_of (noted_all nothing_given ps) ≡ record { ma = ma; persist = persist }
+terms_meant ps ma persist h k = rw (ma_noted ps nothing_given, persist_noted ps nothing_given, ma_is ps ma h, persist_is ps persist k) refl
 
 no_equals_after : (given : Given) (name : List ℕ) (p : ℕ) (rest : List ℕ) → begins_with 61 rest ≡ false → after_parameter_name given name p rest ≡ refused p BadParameter
 no_equals_after given name p [] h = refl
@@ -187,7 +183,7 @@ refusal_read n p q given z place (inl r) =
     ap (parameter_by_token given p z) (token_refused p p Empty z (refl, r.no_token)) ∙ rw here refl
 refusal_read n p q given z place (inr (inl r)) =
     let e : p + length (r.name ++ r.rest) ≡ n = subst (λ xs. p + length xs ≡ n) r.text place in
-    rw r.text (no_value_read n p q given r.name r.rest r.is_name r.no_token r.no_equals r.place e)
+    rw r.text (no_value_read n p q given r.name r.rest r.is_name r.no_token (front_false 61 r.rest r.no_equals) r.place e)
 refusal_read n p q given z place (inr (inr r)) =
     let e : p + length (r.name ++ 61 ∷ r.rest) ≡ n = subst (λ xs. p + length xs ≡ n) r.text place in
     rw r.text (bad_value_read n p q r.p r.reason given r.name r.rest r.is_name r.no_token r.from r.refused e)

@@ -1,6 +1,8 @@
 -- Reading tokens, quoted strings and blanks that a text begins with. A rest of a text of n bytes begins at the place
 -- n less the length of the rest.
 use Rattle.std.proofs.Common.{◌≡◌, ℕ, ◌+◌, ◌-◌, Bool, true, false, ◌||◌, nat_eq, List, [], ◌∷◌, ◌++◌, length, Ok, refl, ap, sym, ◌∙◌, subst, arith, length-append}
+use Rattle.alt_base.proofs.Booleans.{contradicts}
+use Rattle.alt_base.proofs.Numbers.{true_eq}
 use Rattle.field_text.specs.Runs.{AllIn, BeginsIn, run_of, after_run}
 use Rattle.field_text.specs.BlanksGrammar.{is_blank}
 use Rattle.field_text.specs.BlanksReading.{read_blanks, after_blanks}
@@ -28,18 +30,12 @@ blanks_place n p x h =
     let long : length x ≡ length (run_of is_blank x) + length (after_run is_blank x) = ap length (longest_run is_blank x).text ∙ length-append (run_of is_blank x) (after_run is_blank x) in
     omega arith
 
-eq_from_test : (a b : ℕ) → nat_eq a b ≡ true → a ≡ b
-eq_from_test a b h = grind arith
-
-test_from_eq : (a b : ℕ) → a ≡ b → nat_eq a b ≡ true
-test_from_eq a b h = grind arith
-
 -- a token's byte is no blank, no comma and no `=`
 not_byte : (b k : ℕ) → is_token b ≡ true → is_token k ≡ false → nat_eq b k ≡ false
 not_byte b k token none = go (nat_eq b k) refl
   where
     go : (t : Bool) → nat_eq b k ≡ t → t ≡ false
-    go true is = sym token ∙ subst (λ c. is_token c ≡ false) (sym (eq_from_test b k is)) none
+    go true is = sym token ∙ subst (λ c. is_token c ≡ false) (sym (true_eq b k is)) none
     go false is = refl
 
 pub token_no_blank : (b : ℕ) → is_token b ≡ true → is_blank b ≡ false
@@ -48,12 +44,9 @@ token_no_blank b h = rw (not_byte b 32 h refl, not_byte b 9 h refl) refl
 pub token_no_comma : (b : ℕ) → is_token b ≡ true → nat_eq b 44 ≡ false
 token_no_comma b h = not_byte b 44 h refl
 
-both_ways : (b : Bool) → b ≡ true → b ≡ false → ⊥
-both_ways b holds fails = cc
-
 pub no_blank_front : (t y : List ℕ) → IsToken t → BeginsIn is_blank (t ++ y) → ⊥
 no_blank_front [] y h b = h.some refl
-no_blank_front (c ∷ cs) y h b = both_ways (is_blank c) b (token_no_blank c h.valid.0)
+no_blank_front (c ∷ cs) y h b = contradicts (is_blank c) b (token_no_blank c h.valid.0)
 
 pub no_comma_front : (t y : List ℕ) → IsToken t → begins_with 44 (t ++ y) ≡ false
 no_comma_front [] y h = absurd (h.some refl)
@@ -64,13 +57,13 @@ blank_no_token : (b : ℕ) → is_blank b ≡ true → is_token b ≡ false
 blank_no_token b h = go (nat_eq b 32) (nat_eq b 9) refl refl h
   where
     go : (s t : Bool) → nat_eq b 32 ≡ s → nat_eq b 9 ≡ t → (s || t) ≡ true → is_token b ≡ false
-    go true t is_s is_t either = subst (λ c. is_token c ≡ false) (sym (eq_from_test b 32 is_s)) refl
-    go false true is_s is_t either = subst (λ c. is_token c ≡ false) (sym (eq_from_test b 9 is_t)) refl
+    go true t is_s is_t either = subst (λ c. is_token c ≡ false) (sym (true_eq b 32 is_s)) refl
+    go false true is_s is_t either = subst (λ c. is_token c ≡ false) (sym (true_eq b 9 is_t)) refl
     go false false is_s is_t either = let clash : false ≡ true = either in cc
 
 pub no_token_front : (blanks y : List ℕ) → AllIn is_blank blanks → (BeginsIn is_token y → ⊥) → BeginsIn is_token (blanks ++ y) → ⊥
 no_token_front [] y valid none b = none b
-no_token_front (c ∷ cs) y valid none b = both_ways (is_token c) b (blank_no_token c valid.0)
+no_token_front (c ∷ cs) y valid none b = contradicts (is_token c) b (blank_no_token c valid.0)
 
 -- tokens
 pub token_read : (n p : ℕ) (t y : List ℕ) → IsToken t → (BeginsIn is_token y → ⊥) → p + length (t ++ y) ≡ n → read_token p (t ++ y) ≡ Ok (n - length y)

@@ -1,8 +1,13 @@
 -- The reading of a value of Alt-Used against its grammar.
-use Rattle.std.proofs.Common.{◌≡◌, ◌≢◌, ◌⊎◌, ℕ, ◌+◌, Bool, true, false, cond, ◌&&◌, ◌||◌, not, nat_eq, List, [], ◌∷◌, ◌++◌, length, take, drop, Option, Some, None, option_map, Ok, refl, ap, sym, ◌∙◌, subst, arith, length-append, inl, inr}
-use Rattle.std.proofs.Math.Seq.{take-append_seam}
+use Rattle.std.proofs.Common.{◌≡◌, ◌≢◌, ◌⊎◌, ℕ, ◌+◌, Bool, true, false, cond, not, nat_eq, List, [], ◌∷◌, ◌++◌, length, Option, Some, None, option_map, Ok, refl, ap, sym, ◌∙◌, subst, arith, length-append, inl, inr}
+use Rattle.std.proofs.Math.Seq.{take-append_seam, drop-append_seam}
 use Rattle.std.specs.List.{list_any, list_all}
 use Rattle.std.specs.Char.{is_ascii_digit}
+use Rattle.std.proofs.lemmas.Bool.{or_parts, and_parts}
+use Rattle.std.proofs.lemmas.List.{append-nil}
+use Rattle.alt_base.proofs.Digits.{digits_all}
+use Rattle.alt_base.proofs.Booleans.{contradicts}
+use Rattle.alt_base.proofs.Numbers.{eq_false, true_eq}
 use Rattle.field_text.specs.Runs.{AllIn, BeginsIn}
 use Rattle.origin_values.specs.HostGrammar.{SpellsHost}
 use Rattle.origin_values.specs.HostReading.{read_host}
@@ -16,34 +21,22 @@ use Rattle.altsvc_grammar.specs.UsedReading.{used_refused, used_host_end, used_a
 use Rattle.altsvc_grammar.specs.UsedGrammar.{IsHostRun, SpellsUsedPort, SpellsUsed, IsBadHost, IsBadPort, IsLeft, IsUsedTrailing, UsedRefusedAt}
 use Rattle.altsvc_grammar.specs.declared.refusal.UsedRefusal.{UsedRefusal}
 use Rattle.altsvc_grammar.specs.declared.refusal.UsedRefusal.TheVariants.{BadHost, BadPort, Trailing}
-use Rattle.altsvc_grammar.proofs.Authorities.{port_read, port_spelled, digits_all}
-
-eq_fact : (a b : ℕ) → nat_eq a b ≡ true → a ≡ b
-eq_fact a b h = grind arith
-
-not_eq_fact : (a b : ℕ) → nat_eq a b ≡ false → a ≢ b
-not_eq_fact a b h = grind arith
-
-not_eq_test : (a b : ℕ) → a ≢ b → nat_eq a b ≡ false
-not_eq_test a b h = grind arith
-
-either_false : (a b : Bool) → (a || b) ≡ false → (a ≡ false) × (b ≡ false)
-either_false true b h = cc
-either_false false b h = (refl, h)
+use Rattle.altsvc_grammar.proofs.Fronts.{false_front, front_false}
+use Rattle.altsvc_grammar.proofs.Authorities.{port_read, port_spelled}
 
 -- how far the host goes
 bracket_at : (inner tail : List ℕ) → list_any (λ b. nat_eq b 93) inner ≡ false → bracket_end ((inner ++ 93 ∷ []) ++ tail) ≡ Some (length inner + 1)
 bracket_at [] tail h = refl
 bracket_at (b ∷ bs) tail h =
-    let t = either_false (nat_eq b 93) (list_any (λ c. nat_eq c 93) bs) h in
+    let t = or_parts (nat_eq b 93) (list_any (λ c. nat_eq c 93) bs) h in
     rw (t.0, bracket_at bs tail t.1) (ap Some (omega arith))
 
-plain_at : (run tail : List ℕ) → list_any (λ b. nat_eq b 58) run ≡ false → (tail ≡ []) ⊎ (begins_with 58 tail ≡ true) → count_before (λ c. nat_eq c 58) (run ++ tail) ≡ length run
+plain_at : (run tail : List ℕ) → list_any (λ b. nat_eq b 58) run ≡ false → (tail ≡ []) ⊎ ((more : List ℕ) × (tail ≡ 58 ∷ more)) → count_before (λ c. nat_eq c 58) (run ++ tail) ≡ length run
 plain_at [] [] h e = refl
 plain_at [] (b ∷ bs) h (inl e) = cc
-plain_at [] (b ∷ bs) h (inr e) = rw e refl
+plain_at [] (b ∷ bs) h (inr e) = ap (count_before (λ c. nat_eq c 58)) e.1
 plain_at (b ∷ bs) tail h e =
-    let t = either_false (nat_eq b 58) (list_any (λ c. nat_eq c 58) bs) h in
+    let t = or_parts (nat_eq b 58) (list_any (λ c. nat_eq c 58) bs) h in
     rw (t.0, plain_at bs tail t.1 e) (omega arith)
 
 pub end_at : (run tail : List ℕ) → IsHostRun run tail → used_host_end (run ++ tail) ≡ Some (length run)
@@ -54,24 +47,19 @@ end_at run tail (inl b) =
 end_at [] [] (inr p) = refl
 end_at [] (b ∷ bs) (inr p) = go p.longest
   where
-    go : (b ∷ bs ≡ []) ⊎ (nat_eq b 58 ≡ true) → used_host_end (b ∷ bs) ≡ Some 0
+    go : (b ∷ bs ≡ []) ⊎ ((more : List ℕ) × (b ∷ bs ≡ 58 ∷ more)) → used_host_end (b ∷ bs) ≡ Some 0
     go (inl e) = cc
-    go (inr e) = ap (λ c. used_host_end (c ∷ bs)) (eq_fact b 58 e)
-end_at (b ∷ bs) tail (inr p) = rw p.no_bracket (ap Some (plain_at (b ∷ bs) tail p.inside p.longest))
-
-pub taken : (run tail : List ℕ) → take (length run) (run ++ tail) ≡ run
-taken run tail = take-append_seam run tail
-
-dropped : (run tail : List ℕ) → drop (length run) (run ++ tail) ≡ tail
-dropped [] tail = refl
-dropped (b ∷ bs) tail = dropped bs tail
+    go (inr e) = ap used_host_end e.1
+end_at (b ∷ bs) tail (inr p) =
+    let none : nat_eq b 91 ≡ false = front_false 91 (b ∷ bs) p.no_bracket in
+    rw none (ap Some (plain_at (b ∷ bs) tail p.inside p.longest))
 
 at_run : (run tail : List ℕ) → IsHostRun run tail → read_used (run ++ tail) ≡ with_used_host (length run) (run ++ tail) (read_host run)
-at_run run tail is = ap (used_by_end (run ++ tail)) (end_at run tail is) ∙ ap (λ xs. with_used_host (length run) (run ++ tail) (read_host xs)) (taken run tail)
+at_run run tail is = ap (used_by_end (run ++ tail)) (end_at run tail is) ∙ ap (λ xs. with_used_host (length run) (run ++ tail) (read_host xs)) (take-append_seam run tail)
 
 at_host : (run tail : List ℕ) (host : Host) → IsHostRun run tail → SpellsHost run host → read_used (run ++ tail) ≡ after_used_host host (length run) tail
 at_host run tail host is s =
-    at_run run tail is ∙ ap (with_used_host (length run) (run ++ tail)) (read_host_complete run host s) ∙ ap (after_used_host host (length run)) (dropped run tail)
+    at_run run tail is ∙ ap (with_used_host (length run) (run ++ tail)) (read_host_complete run host s) ∙ ap (after_used_host host (length run)) (drop-append_seam run tail)
 
 -- the digits behind the colon
 digits_at : (digits rest : List ℕ) → AllIn is_ascii_digit digits → (BeginsIn is_ascii_digit rest → ⊥) → digits_before (digits ++ rest) ≡ length digits
@@ -87,33 +75,24 @@ at_digits : (host : Host) (p : ℕ) (digits rest : List ℕ) → AllIn is_ascii_
     → after_used_host host p (58 ∷ (digits ++ rest)) ≡ used_port host (p + 1) (length digits) (digits ++ rest) (read_port digits)
 at_digits host p digits rest h none =
     ap (λ n. used_digits host (p + 1) n (digits ++ rest)) (digits_at digits rest h none)
-    ∙ ap (λ xs. used_port host (p + 1) (length digits) (digits ++ rest) (read_port xs)) (taken digits rest)
+    ∙ ap (λ xs. used_port host (p + 1) (length digits) (digits ++ rest) (read_port xs)) (take-append_seam digits rest)
 
 at_port : (host : Host) (p : ℕ) (digits rest : List ℕ) (port : ℕ) → AllIn is_ascii_digit digits → (BeginsIn is_ascii_digit rest → ⊥) → SpellsPort digits port
     → after_used_host host p (58 ∷ (digits ++ rest)) ≡ used_at_end host port (p + 1 + length digits) rest
 at_port host p digits rest port h none s =
-    at_digits host p digits rest h none ∙ ap (used_port host (p + 1) (length digits) (digits ++ rest)) (port_read digits port s) ∙ ap (used_at_end host port (p + 1 + length digits)) (dropped digits rest)
-
-pub append_none : (xs : List ℕ) → xs ++ [] ≡ xs
-append_none [] = refl
-append_none (b ∷ bs) = ap (λ ys. b ∷ ys) (append_none bs)
+    at_digits host p digits rest h none ∙ ap (used_port host (p + 1) (length digits) (digits ++ rest)) (port_read digits port s) ∙ ap (used_at_end host port (p + 1 + length digits)) (drop-append_seam digits rest)
 
 port_digits : (digits : List ℕ) (port : ℕ) → SpellsPort digits port → AllIn is_ascii_digit digits
 port_digits digits port s = ascii digits (digits_all digits s.numeral.1)
   where
-    both : (a b : Bool) → (a && b) ≡ true → (a ≡ true) × (b ≡ true)
-    both true true h = (refl, refl)
-    both true false h = cc
-    both false b h = cc
-
     ascii : (x : List ℕ) → list_all is_ascii_digit x ≡ true → AllIn is_ascii_digit x
     ascii [] h = tt
-    ascii (b ∷ bs) h = let t = both (is_ascii_digit b) (list_all is_ascii_digit bs) h in (t.0, ascii bs t.1)
+    ascii (b ∷ bs) h = let t = and_parts (is_ascii_digit b) (list_all is_ascii_digit bs) h in (t.0, ascii bs t.1)
 
 tail_read : (host : Host) (p : ℕ) (tail : List ℕ) (port : ℕ) → SpellsUsedPort tail port → after_used_host host p tail ≡ Ok (host, port)
 tail_read host p tail port (inl s) = rw (s.0, s.1) refl
 tail_read host p tail port (inr s) =
-    ap (after_used_host host p) (s.1 ∙ ap (λ xs. 58 ∷ xs) (sym (append_none s.0)))
+    ap (after_used_host host p) (s.1 ∙ ap (λ xs. 58 ∷ xs) (sym (append-nil s.0)))
     ∙ at_port host p s.0 [] port (port_digits s.0 port s.2) (λ h. h) s.2
 
 -- what is spelled is read
@@ -138,7 +117,7 @@ bracket_front [] = inl refl
 bracket_front (b ∷ bs) = go (nat_eq b 93) refl (bracket_front bs)
   where
     go : (t : Bool) → nat_eq b 93 ≡ t → (bracket_end bs ≡ None) ⊎ BracketFront bs → (bracket_end (b ∷ bs) ≡ None) ⊎ BracketFront (b ∷ bs)
-    go true is rest = inr (record { inner = []; tail = bs; text = ap (λ c. c ∷ bs) (eq_fact b 93 is); first = refl })
+    go true is rest = inr (record { inner = []; tail = bs; text = ap (λ c. c ∷ bs) (true_eq b 93 is); first = refl })
     go false is (inl e) = inl (rw (is, e) refl)
     go false is (inr f) = inr (record { inner = b ∷ f.inner; tail = f.tail; text = ap (λ xs. b ∷ xs) f.text; first = rw is f.first })
 
@@ -147,27 +126,26 @@ record PlainFront (x : List ℕ) : Type 0 where
   tail : List ℕ
   text : x ≡ run ++ tail
   inside : list_any (λ b. nat_eq b 58) run ≡ false
-  longest : (tail ≡ []) ⊎ (begins_with 58 tail ≡ true)
+  longest : (tail ≡ []) ⊎ ((more : List ℕ) × (tail ≡ 58 ∷ more))
 
 plain_front : (x : List ℕ) → PlainFront x
 plain_front [] = record { run = []; tail = []; text = refl; inside = refl; longest = inl refl }
 plain_front (b ∷ bs) = go (nat_eq b 58) refl (plain_front bs)
   where
     go : (t : Bool) → nat_eq b 58 ≡ t → PlainFront bs → PlainFront (b ∷ bs)
-    go true is f = record { run = []; tail = b ∷ bs; text = refl; inside = refl; longest = inr is }
+    go true is f = record { run = []; tail = b ∷ bs; text = refl; inside = refl; longest = inr (bs, ap (λ c. c ∷ bs) (true_eq b 58 is)) }
     go false is f = record { run = b ∷ f.run; tail = f.tail; text = ap (λ xs. b ∷ xs) f.text; inside = rw is f.inside; longest = f.longest }
 
-front_bracket : (x run tail : List ℕ) → x ≡ run ++ tail → begins_with 91 x ≡ false → begins_with 91 run ≡ false
-front_bracket x [] tail e h = refl
-front_bracket x (b ∷ bs) tail e h = subst (λ xs. begins_with 91 xs ≡ false) e h
+front_bracket : (x run tail : List ℕ) → x ≡ run ++ tail → begins_with 91 x ≡ false → (more : List ℕ) → run ≢ 91 ∷ more
+front_bracket x run tail e h more begins = false_front 91 x h (more ++ tail) (e ∙ ap (λ xs. xs ++ tail) begins)
 
 pub run_front : (x : List ℕ) → (used_host_end x ≡ None) ⊎ RunFront x
-run_front [] = inr (record { run = []; tail = []; text = refl; is_run = inr (record { inside = refl; no_bracket = refl; longest = inl refl }) })
+run_front [] = inr (record { run = []; tail = []; text = refl; is_run = inr (record { inside = refl; no_bracket = λ more e. cc; longest = inl refl }) })
 run_front (b ∷ bs) = go (nat_eq b 91) refl
   where
     closed : nat_eq b 91 ≡ true → (bracket_end bs ≡ None) ⊎ BracketFront bs → (used_host_end (b ∷ bs) ≡ None) ⊎ RunFront (b ∷ bs)
     closed is (inl e) = inl (rw (is, e) refl)
-    closed is (inr f) = inr (record { run = 91 ∷ (f.inner ++ 93 ∷ []); tail = f.tail; text = ap (λ c. c ∷ bs) (eq_fact b 91 is) ∙ ap (λ xs. 91 ∷ xs) f.text; is_run = inl (record { inner = f.inner; spelled = refl; first = f.first }) })
+    closed is (inr f) = inr (record { run = 91 ∷ (f.inner ++ 93 ∷ []); tail = f.tail; text = ap (λ c. c ∷ bs) (true_eq b 91 is) ∙ ap (λ xs. 91 ∷ xs) f.text; is_run = inl (record { inner = f.inner; spelled = refl; first = f.first }) })
 
     go : (t : Bool) → nat_eq b 91 ≡ t → (used_host_end (b ∷ bs) ≡ None) ⊎ RunFront (b ∷ bs)
     go true is = closed is (bracket_front bs)
@@ -205,14 +183,11 @@ bad_port_read x q s =
 
 left_alone : (host : Host) (p : ℕ) (rest : List ℕ) → IsLeft [] rest → after_used_host host p rest ≡ used_refused p Trailing
 left_alone host p [] h = absurd h
-left_alone host p (b ∷ bs) h = rw (not_eq_test b 58 h) refl
+left_alone host p (b ∷ bs) h = rw (eq_false b 58 h) refl
 
 left_digits : (rest port_text : List ℕ) (c : ℕ) → IsLeft (c ∷ port_text) rest → BeginsIn is_ascii_digit rest → ⊥
 left_digits [] port_text c h k = h
-left_digits (b ∷ bs) port_text c h k = clash (is_ascii_digit b) k h
-  where
-    clash : (t : Bool) → t ≡ true → t ≡ false → ⊥
-    clash t holds fails = cc
+left_digits (b ∷ bs) port_text c h k = contradicts (is_ascii_digit b) k h
 
 left_end : (host : Host) (port p : ℕ) (rest port_text : List ℕ) (c : ℕ) → IsLeft (c ∷ port_text) rest → used_at_end host port p rest ≡ used_refused p Trailing
 left_end host port p [] port_text c h = absurd h

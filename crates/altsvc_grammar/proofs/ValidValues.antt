@@ -1,8 +1,7 @@
--- A value that is spelled is valid: each alternative is in its bounds, and no two have one key.
-use Rattle.std.proofs.Common.{◌≡◌, ◌≢◌, ℕ, ◌≤◌, Bool, true, false, cond, min, List, [], ◌∷◌, ◌++◌, codes, Option, Some, None, refl, sym, subst, arith}
-use Rattle.std.specs.List.{list_any, list_all}
-use Rattle.std.specs.Char.{is_ascii_digit}
-use Rattle.std.specs.Str.Parse.{digits_value}
+-- A value that is spelled is valid: each alternative is in its bounds, and no two have one key; the host of Alt-Used is in
+-- its form, and the port in its bounds.
+use Rattle.std.proofs.Common.{◌≡◌, ◌≢◌, ℕ, ◌≤◌, Bool, true, false, cond, List, [], ◌∷◌, ◌++◌, Option, Some, None, refl, sym, subst, arith, inl, inr}
+use Rattle.std.specs.List.{list_any}
 use Rattle.field_text.specs.DeltaGrammar.{greatest_delta_seconds}
 use Rattle.origin_values.specs.declared.host.Host.{Host}
 use Rattle.origin_values.proofs.HostTexts.{host_valid}
@@ -10,11 +9,11 @@ use Rattle.altsvc_grammar.specs.declared.alt_key.AltKey.{AltKey}
 use Rattle.altsvc_grammar.specs.declared.alt.Alt.{Alt}
 use Rattle.altsvc_grammar.specs.declared.alt_svc.AltSvc.{AltSvc}
 use Rattle.altsvc_grammar.specs.declared.alt_svc.AltSvc.TheVariants as value
-use Rattle.altsvc_grammar.specs.ParameterReading.{ma_value, or_else}
 use Rattle.altsvc_grammar.specs.AuthorityGrammar.{SpellsOptionalHost}
-use Rattle.altsvc_grammar.specs.ParameterGrammar.{first_named, ma_said}
+use Rattle.altsvc_grammar.specs.UsedGrammar.{SpellsUsedPort, SpellsUsed}
+use Rattle.altsvc_grammar.specs.TermsGrammar.{MeansSeconds}
 use Rattle.altsvc_grammar.specs.ValueGrammar.{Alternative, IsAlternative, alt_meant, Element, Clear, Offered, IsElement, Slot, IsSlot, IsOptionalElement, AreSlots, with_element, elements_of, is_clear, alternatives_of, key_in, firsts, meaning, SpellsValue}
-use Rattle.altsvc_grammar.specs.Valid.{IsOptionalHost, IsAlt, AreAlts, AreDistinct, IsAltSvc}
+use Rattle.altsvc_grammar.specs.Valid.{IsOptionalHost, IsAlt, AreAlts, AreDistinct, IsAltSvc, IsUsed}
 use Rattle.altsvc_grammar.proofs.Meanings.{no_clear_some}
 
 AreElements : List Element → Type 0
@@ -31,17 +30,10 @@ unfolding AreElements
 slots_elements [] last are is = one_more last.element [] is.element tt
 slots_elements (s ∷ ss) last are is = one_more s.element (elements_of (ss ++ last ∷ [])) are.0.element (slots_elements ss last are.1 is)
 
-ma_bounded : (value : List ℕ) → ma_value value ≤ greatest_delta_seconds
-ma_bounded [] = omega arith
-ma_bounded (b ∷ bs) = go (list_all is_ascii_digit (b ∷ bs))
-  where
-    go : (t : Bool) → or_else 86400 (cond t (Some (min (digits_value 10 (b ∷ bs)) greatest_delta_seconds)) None) ≤ greatest_delta_seconds
-    go true = omega arith
-    go false = omega arith
-
-said_bounded : (o : Option (List ℕ)) → ma_said o ≤ greatest_delta_seconds
-said_bounded None = omega arith
-said_bounded (Some value) = ma_bounded value
+seconds_bounded : (said : Option (List ℕ)) (seconds : ℕ) → MeansSeconds said seconds → seconds ≤ greatest_delta_seconds
+seconds_bounded None seconds h = omega arith
+seconds_bounded (Some value) seconds (inl s) = omega (arith, s.value)
+seconds_bounded (Some value) seconds (inr s) = omega (arith, s.1)
 
 optional_valid : (text : List ℕ) (host : Option Host) → SpellsOptionalHost text host → IsOptionalHost host
 optional_valid text None s = tt
@@ -52,7 +44,7 @@ alt_valid a is =
     let s = is.authority in
     record {
       key = record { proto = is.proto; host = optional_valid s.front a.host s.of_host; some = s.of_port.some; fits = s.of_port.fits };
-      seconds = said_bounded (first_named (codes "ma") a.parameters);
+      seconds = seconds_bounded is.ma.said a.ma is.ma.means;
     }
 
 alts_valid : (es : List Element) → AreElements es → AreAlts (alternatives_of es)
@@ -86,3 +78,10 @@ meaning_valid es some are = go (list_any is_clear es) refl
 
 pub value_valid : (x : List ℕ) (v : AltSvc) → SpellsValue x v → IsAltSvc v
 value_valid x v s = subst IsAltSvc (sym s.means) (meaning_valid (elements_of (s.before ++ s.last ∷ [])) s.some (slots_elements s.before s.last s.are_slots s.is_slot))
+
+used_port_bounds : (tail : List ℕ) (port : ℕ) → SpellsUsedPort tail port → (1 ≤ port) × (port ≤ 65535)
+used_port_bounds tail port (inl s) = (omega (arith, s.1), omega (arith, s.1))
+used_port_bounds tail port (inr s) = (s.2.some, s.2.fits)
+
+pub used_valid : (x : List ℕ) (used : Host × ℕ) → SpellsUsed x used → IsUsed used
+used_valid x used s = let bounds = used_port_bounds s.tail used.1 s.of_port in record { host = host_valid s.run used.0 s.of_host; some = bounds.0; fits = bounds.1 }

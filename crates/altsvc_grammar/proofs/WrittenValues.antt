@@ -1,15 +1,18 @@
 -- The text that a value is written as spells it.
-use Rattle.std.proofs.Common.{◌≡◌, ℕ, ◌^◌, ◌≤◌, ◌<◌, ◌==◌, Bool, true, false, cond, ◌&&◌, ◌||◌, nat_le, List, [], ◌∷◌, ◌++◌, length, codes, Option, Some, None, refl, ap, ap₂, sym, ◌∙◌, arith, append_assoc}
+use Rattle.std.proofs.Common.{◌≡◌, ℕ, ◌^◌, ◌≤◌, ◌<◌, ◌==◌, Bool, true, false, cond, ◌&&◌, ◌||◌, nat_le, List, [], ◌∷◌, ◌++◌, length, codes, Option, Some, None, refl, ap, sym, subst, ◌∙◌, arith, append_assoc}
 use Rattle.std.specs.List.{list_any, list_all}
 use Rattle.std.specs.Char.{is_ascii_digit}
 use Rattle.std.specs.Fmt.{decimal}
 use Rattle.std.specs.Str.Parse.{AllDigits}
 use Rattle.std.proofs.lemmas.Fmt.{decimal_is_IsNumeral, decimal_nonempty, length-decimal-le}
+use Rattle.alt_base.proofs.Digits.{digits_all}
+use Rattle.alt_base.proofs.Numbers.{true_eq}
 use Rattle.field_text.specs.Runs.{AllIn}
 use Rattle.field_text.specs.BlanksGrammar.{is_blank}
 use Rattle.field_text.specs.TokenGrammar.{is_token}
 use Rattle.field_text.specs.QuotedGrammar.{is_quoted_text, Part, Raw, parts_text, parts_bytes, AreParts}
 use Rattle.field_text.proofs.DeltaLemmas.{delta_spelled, decimal_spells}
+use Rattle.field_text.proofs.RunLemmas.{AllIn-append}
 use Rattle.origin_values.specs.declared.host.Host.{Host}
 use Rattle.origin_values.proofs.HostTexts.{host_written}
 use Rattle.altsvc_grammar.specs.declared.alt_key.AltKey.{AltKey}
@@ -19,12 +22,12 @@ use Rattle.altsvc_grammar.specs.declared.alt_svc.AltSvc.TheVariants as value
 use Rattle.altsvc_grammar.specs.Written.{optional_host_text, ma_text, persist_text, alt_text, more_alts_text, alts_text, value_text}
 use Rattle.altsvc_grammar.specs.ParameterReading.{or_else}
 use Rattle.altsvc_grammar.specs.AuthorityGrammar.{SpellsPort, SpellsOptionalHost}
-use Rattle.altsvc_grammar.specs.ParameterGrammar.{IsToken, Token, Parameter, IsParameter, parameters_then, AreParameters, ma_of, persist_of}
-use Rattle.altsvc_grammar.specs.ValueGrammar.{Alternative, alternative_then, IsAlternative, alt_meant, Element, Clear, Offered, Slot, slot_then, IsSlot, slots_before, AreSlots, elements_of, is_clear, alternatives_of, firsts, meaning, most_value_bytes, SpellsValue}
+use Rattle.altsvc_grammar.specs.ParameterGrammar.{IsToken, Token, Parameter, IsParameter, parameters_then, AreParameters}
+use Rattle.altsvc_grammar.specs.TermsGrammar.{SaysMa, SaysPersist}
+use Rattle.altsvc_grammar.specs.ValueGrammar.{Alternative, alternative_then, IsAlternative, Element, Clear, Offered, Slot, slot_then, IsSlot, slots_before, AreSlots, elements_of, is_clear, alternatives_of, firsts, meaning, most_value_bytes, SpellsValue}
 use Rattle.altsvc_grammar.specs.Valid.{IsOptionalHost, IsKey, IsAlt, AreAlts, AreDistinct, AreListed, IsAltSvc}
+use Rattle.altsvc_grammar.proofs.ParameterTerms.{ma_of, says_ma, persist_of, says_persist}
 use Rattle.altsvc_grammar.proofs.QuotedHosts.{host_quoted, decimal_quoted, decimal_digits}
-use Rattle.altsvc_grammar.proofs.Percents.{all_append}
-use Rattle.altsvc_grammar.proofs.Authorities.{digits_all}
 use Rattle.alt_base.proofs.Conjunctions.{both}
 
 -- quoted text alone
@@ -112,9 +115,6 @@ parameters_valid ma persist small = go (ma == 86400)
     go true = persist_valid persist
     go false = (named_valid (codes "ma") (decimal ma) ma_token (decimal_token ma small), persist_valid persist)
 
-is_default : (ma : ℕ) → (ma == 86400) ≡ true → ma ≡ 86400
-is_default ma h = grind arith
-
 no_ma : (persist : Bool) → ma_of (persist_parameters persist) ≡ 86400
 no_ma true = refl
 no_ma false = refl
@@ -123,7 +123,7 @@ ma_meant : (ma : ℕ) (persist : Bool) → ma ≤ 2147483648 → ma_of (paramete
 ma_meant ma persist small = go (ma == 86400) refl
   where
     go : (t : Bool) → (ma == 86400) ≡ t → ma_of (cond t (persist_parameters persist) (named (codes "ma") (decimal ma) ∷ persist_parameters persist)) ≡ ma
-    go true is = no_ma persist ∙ sym (is_default ma is)
+    go true is = no_ma persist ∙ sym (true_eq ma 86400 is)
     go false is = ap (or_else 86400) (delta_spelled ma (decimal ma) (decimal_spells ma small))
 
 persist_alone : (persist : Bool) → persist_of (persist_parameters persist) ≡ persist
@@ -142,7 +142,7 @@ abbrev authority_text : AltKey → List ℕ
 authority_text key = optional_host_text key.host ++ 58 ∷ decimal key.port
 
 abbrev tree : Alt → Alternative
-tree alt = record { proto = alt.key.proto; parts = raw_parts (authority_text alt.key); host = alt.key.host; port = alt.key.port; parameters = parameters_of alt.ma alt.persist }
+tree alt = record { proto = alt.key.proto; parts = raw_parts (authority_text alt.key); host = alt.key.host; port = alt.key.port; parameters = parameters_of alt.ma alt.persist; ma = alt.ma; persist = alt.persist }
 
 tree_text : (alt : Alt) (w : List ℕ) → alternative_then (tree alt) w ≡ alt_text alt ++ w
 tree_text alt w =
@@ -163,7 +163,7 @@ port_spelled port some fits =
     record { numeral = n.0; short = length-decimal-le 5 port (omega arith) (omega arith) wide; value = n.1; some = some; fits = fits }
 
 authority_quoted : (key : AltKey) → IsKey key → AllIn is_quoted_text (authority_text key)
-authority_quoted key valid = all_append is_quoted_text (optional_host_text key.host) (58 ∷ decimal key.port) (optional_quoted key.host valid.host) (refl, decimal_quoted key.port (omega (arith, valid.fits)))
+authority_quoted key valid = AllIn-append is_quoted_text (optional_host_text key.host) (58 ∷ decimal key.port) (optional_quoted key.host valid.host) (refl, decimal_quoted key.port (omega (arith, valid.fits)))
 
 tree_valid : (alt : Alt) → IsAlt alt → IsAlternative (tree alt)
 tree_valid alt valid = record {
@@ -171,13 +171,9 @@ tree_valid alt valid = record {
   parts = raw_valid (authority_text alt.key) (authority_quoted alt.key valid.key);
   authority = record { front = optional_host_text alt.key.host; digits = decimal alt.key.port; spelled = raw_bytes (authority_text alt.key); of_host = optional_spelled alt.key.host valid.key.host; of_port = port_spelled alt.key.port valid.key.some valid.key.fits };
   parameters = parameters_valid alt.ma alt.persist (omega (arith, valid.seconds));
+  ma = subst (SaysMa (parameters_of alt.ma alt.persist)) (ma_meant alt.ma alt.persist valid.seconds) (says_ma (parameters_of alt.ma alt.persist));
+  persist = subst (SaysPersist (parameters_of alt.ma alt.persist)) (persist_meant alt.ma alt.persist) (says_persist (parameters_of alt.ma alt.persist));
 }
-
-tree_meant : (alt : Alt) → IsAlt alt → alt_meant (tree alt) ≡ alt
-tree_meant alt valid = ap₂ (λ m p. with_terms m p) (ma_meant alt.ma alt.persist valid.seconds) (persist_meant alt.ma alt.persist)
-  where
-    with_terms : ℕ → Bool → Alt
-    with_terms m p = record { key = alt.key; ma = m; persist = p }
 
 -- the slots of a list
 abbrev slot_of : List ℕ → Alt → Slot
@@ -219,16 +215,16 @@ no_clear : (alts : List Alt) → list_any is_clear (trees alts) ≡ false
 no_clear [] = refl
 no_clear (alt ∷ alts) = no_clear alts
 
-trees_meant : (alts : List Alt) → AreAlts alts → alternatives_of (trees alts) ≡ alts
-trees_meant [] are = refl
-trees_meant (alt ∷ alts) are = ap₂ (λ a more. a ∷ more) (tree_meant alt are.0) (trees_meant alts are.1)
+trees_meant : (alts : List Alt) → alternatives_of (trees alts) ≡ alts
+trees_meant [] = refl
+trees_meant (alt ∷ alts) = ap (λ more. alt ∷ more) (trees_meant alts)
 
 all_kept : (before : List AltKey) (alts : List Alt) → AreDistinct before alts → firsts before alts ≡ alts
 all_kept before [] h = refl
 all_kept before (alt ∷ alts) h = rw h.0 (ap (λ more. alt ∷ more) (all_kept (before ++ alt.key ∷ []) alts h.1))
 
-list_meant : (alts : List Alt) → AreAlts alts → AreDistinct [] alts → meaning (trees alts) ≡ value.List alts
-list_meant alts are distinct = rw (no_clear alts, trees_meant alts are, all_kept [] alts distinct) refl
+list_meant : (alts : List Alt) → AreDistinct [] alts → meaning (trees alts) ≡ value.List alts
+list_meant alts distinct = rw (no_clear alts, trees_meant alts, all_kept [] alts distinct) refl
 
 list_spelled : (alts : List Alt) → AreListed alts → length (alts_text alts) ≤ most_value_bytes → SpellsValue (alts_text alts) (value.List alts)
 list_spelled [] valid short = absurd (valid.some refl)
@@ -243,7 +239,7 @@ list_spelled (alt ∷ alts) valid short =
       text = sym (slots_text [] alt alts);
       short = short;
       some = λ e. let clash : trees (alt ∷ alts) ≡ [] = sym elements ∙ e in cc;
-      means = sym (ap meaning elements ∙ list_meant (alt ∷ alts) valid.valid valid.distinct);
+      means = sym (ap meaning elements ∙ list_meant (alt ∷ alts) valid.distinct);
     }
 
 -- the text that a value is written as spells it

@@ -10,6 +10,7 @@ pub mod SeenElements
 pub mod UsedReading
 pub mod AuthorityGrammar
 pub mod ParameterGrammar
+pub mod TermsGrammar
 pub mod ValueGrammar
 pub mod ValueRefusals
 pub mod Valid

@@ -1,12 +1,10 @@
--- The parameters of an alternative (RFC 7838 3.1) and what they mean.
-use Rattle.std.specs.Prelude.{◌≡◌, ◌≢◌, ◌⊎◌, ℕ, ◌+◌, Bool, false, List, [], ◌∷◌, ◌++◌, length, codes, Option, None, Some, if◌then◌else◌}
+-- The parameters of an alternative (RFC 7838 3.1).
+use Rattle.std.specs.Prelude.{◌≡◌, ◌≢◌, ◌⊎◌, ℕ, ◌+◌, List, [], ◌∷◌, ◌++◌, length}
 use Rattle.field_text.specs.declared.text_refusal.TextRefusal.{TextRefusal}
 use Rattle.field_text.specs.Runs.{AllIn, BeginsIn}
 use Rattle.field_text.specs.BlanksGrammar.{is_blank}
 use Rattle.field_text.specs.TokenGrammar.{is_token}
 use Rattle.field_text.specs.QuotedGrammar.{Part, parts_text, parts_bytes, AreParts, QuotedRefusedAt}
-use Rattle.altsvc_grammar.specs.ParameterReading.{is_named, is_one, ma_value}
-use Rattle.altsvc_grammar.specs.Steps.{begins_with}
 
 -- a token, or a quoted string of these parts
 pub data ParameterValue : Type 0 where
@@ -64,27 +62,6 @@ EndsParameters [] w = Unit {0}
 EndsParameters (p ∷ []) w = EndsValue p.value w
 EndsParameters (p ∷ next ∷ ps) w = EndsParameters (next ∷ ps) w
 
--- the value of the first parameter of this name, in any case of letters
-abbrev pub first_named : List ℕ → List Parameter → Option (List ℕ)
-first_named letters [] = None
-first_named letters (p ∷ ps) = if is_named letters p.name then Some (value_bytes p.value) else first_named letters ps
-
--- the seconds: what the first `ma` says, and a day without one
-abbrev pub ma_said : Option (List ℕ) → ℕ
-ma_said None = 86400
-ma_said (Some value) = ma_value value
-
-abbrev pub ma_of : List Parameter → ℕ
-ma_of ps = ma_said (first_named (codes "ma") ps)
-
--- it persists where the first `persist` is `1`
-abbrev pub persist_said : Option (List ℕ) → Bool
-persist_said None = false
-persist_said (Some value) = is_one value
-
-abbrev pub persist_of : List Parameter → Bool
-persist_of ps = persist_said (first_named (codes "persist") ps)
-
 -- no name stands there
 pub record IsNoName (n : ℕ) (z : List ℕ) (q : ℕ) : Type 0 where
   pub no_token : BeginsIn is_token z → ⊥
@@ -98,7 +75,7 @@ pub record IsNoValue (n : ℕ) (z : List ℕ) (q : ℕ) : Type 0 where
   pub text : z ≡ name ++ rest
   pub is_name : IsToken name
   pub no_token : BeginsIn is_token rest → ⊥
-  pub no_equals : begins_with 61 rest ≡ false
+  pub no_equals : (more : List ℕ) → rest ≢ 61 ∷ more
   pub place : q + length rest ≡ n
 
 -- neither a token nor a quoted string follows the `=`

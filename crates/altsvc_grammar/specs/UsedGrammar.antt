@@ -1,12 +1,11 @@
 -- The value of an Alt-Used field (RFC 7838 5), by how its text splits, and its refusals with their places.
-use Rattle.std.specs.Prelude.{◌≡◌, ◌≢◌, ◌⊎◌, ℕ, ◌+◌, true, false, nat_eq, List, [], ◌∷◌, ◌++◌, length}
+use Rattle.std.specs.Prelude.{◌≡◌, ◌≢◌, ◌⊎◌, ℕ, ◌+◌, false, nat_eq, List, [], ◌∷◌, ◌++◌, length}
 use Rattle.std.specs.List.{list_any}
 use Rattle.std.specs.Char.{is_ascii_digit}
 use Rattle.field_text.specs.OneReading.{OneReading}
 use Rattle.field_text.specs.Runs.{AllIn, BeginsIn}
 use Rattle.origin_values.specs.HostGrammar.{SpellsHost}
 use Rattle.origin_values.specs.declared.host.Host.{Host}
-use Rattle.altsvc_grammar.specs.Steps.{begins_with}
 use Rattle.altsvc_grammar.specs.AuthorityGrammar.{SpellsPort}
 use Rattle.altsvc_grammar.specs.declared.refusal.UsedRefusal.{UsedRefusal}
 use Rattle.altsvc_grammar.specs.declared.refusal.UsedRefusal.TheVariants.{BadHost, BadPort, Trailing}
@@ -20,8 +19,8 @@ pub record IsBracketed (run : List ℕ) : Type 0 where
 -- what stands before the first colon, and doesn't begin with `[`
 pub record IsPlain (run tail : List ℕ) : Type 0 where
   pub inside : list_any (λ b. nat_eq b 58) run ≡ false
-  pub no_bracket : begins_with 91 run ≡ false
-  pub longest : (tail ≡ []) ⊎ (begins_with 58 tail ≡ true)
+  pub no_bracket : (more : List ℕ) → run ≢ 91 ∷ more
+  pub longest : (tail ≡ []) ⊎ ((more : List ℕ) × (tail ≡ 58 ∷ more))
 
 -- the bytes of the host, before this tail
 abbrev pub IsHostRun : List ℕ → List ℕ → Type 0

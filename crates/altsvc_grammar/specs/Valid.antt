@@ -1,5 +1,5 @@
--- What holds of the values of Alt-Svc.
-use Rattle.std.specs.Prelude.{◌≡◌, ◌≢◌, ◌≤◌, false, List, [], ◌∷◌, ◌++◌, Option, None, Some}
+-- What holds of the values of Alt-Svc and Alt-Used.
+use Rattle.std.specs.Prelude.{◌≡◌, ◌≢◌, ℕ, ◌≤◌, false, List, [], ◌∷◌, ◌++◌, Option, None, Some}
 use Rattle.field_text.specs.DeltaGrammar.{greatest_delta_seconds}
 use Rattle.origin_values.specs.Valid.{IsHost}
 use Rattle.origin_values.specs.declared.host.Host.{Host}
@@ -44,3 +44,9 @@ pub record AreListed (alts : List Alt) : Type 0 where
 abbrev pub IsAltSvc : AltSvc → Type 0
 IsAltSvc value.Clear = Unit {0}
 IsAltSvc (value.List alts) = AreListed alts
+
+-- a host in its form, and a port from 1 to 65535
+pub record IsUsed (used : Host × ℕ) : Type 0 where
+  pub host : IsHost used.0
+  pub some : 1 ≤ used.1
+  pub fits : used.1 ≤ 65535

@@ -8,7 +8,8 @@ use Rattle.field_text.specs.QuotedGrammar.{Part, parts_text, parts_bytes, ArePar
 use Rattle.altsvc_grammar.specs.Keys.{key_eq}
 use Rattle.altsvc_grammar.specs.Written.{encoded}
 use Rattle.altsvc_grammar.specs.AuthorityGrammar.{IsProtocol, SpellsAuthority}
-use Rattle.altsvc_grammar.specs.ParameterGrammar.{Parameter, parameters_then, AreParameters, ma_of, persist_of}
+use Rattle.altsvc_grammar.specs.ParameterGrammar.{Parameter, parameters_then, AreParameters}
+use Rattle.altsvc_grammar.specs.TermsGrammar.{SaysMa, SaysPersist}
 use Rattle.altsvc_grammar.specs.declared.alt_key.AltKey.{AltKey}
 use Rattle.altsvc_grammar.specs.declared.alt.Alt.{Alt}
 use Rattle.altsvc_grammar.specs.declared.alt_svc.AltSvc.{AltSvc}
@@ -18,13 +19,15 @@ use Rattle.altsvc_grammar.specs.declared.alt_svc.AltSvc.TheVariants as value
 abbrev pub most_value_bytes : ℕ
 most_value_bytes = 16384
 
--- a protocol, a quoted string that holds this host and port, and parameters
+-- a protocol, a quoted string that holds this host and port, and parameters, with what they mean
 pub record Alternative : Type 0 where
   pub proto : List ℕ
   pub parts : List Part
   pub host : Option Host
   pub port : ℕ
   pub parameters : List Parameter
+  pub ma : ℕ
+  pub persist : Bool
 
 -- its text, before what follows it
 abbrev pub alternative_then : Alternative → List ℕ → List ℕ
@@ -35,9 +38,11 @@ pub record IsAlternative (a : Alternative) : Type 0 where
   pub parts : AreParts a.parts
   pub authority : SpellsAuthority (parts_bytes a.parts) a.host a.port
   pub parameters : AreParameters a.parameters
+  pub ma : SaysMa a.parameters a.ma
+  pub persist : SaysPersist a.parameters a.persist
 
 abbrev pub alt_meant : Alternative → Alt
-alt_meant a = record { key = record { proto = a.proto; host = a.host; port = a.port }; ma = ma_of a.parameters; persist = persist_of a.parameters }
+alt_meant a = record { key = record { proto = a.proto; host = a.host; port = a.port }; ma = a.ma; persist = a.persist }
 
 -- `clear`, or an alternative
 pub data Element : Type 0 where

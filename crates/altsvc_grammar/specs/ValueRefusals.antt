@@ -8,7 +8,6 @@ use Rattle.field_text.specs.BlanksGrammar.{is_blank}
 use Rattle.field_text.specs.TokenGrammar.{is_token}
 use Rattle.field_text.specs.QuotedGrammar.{Part, parts_text, parts_bytes, AreParts, QuotedRefusedAt}
 use Rattle.altsvc_grammar.specs.Written.{encoded_byte, encoded}
-use Rattle.altsvc_grammar.specs.Steps.{begins_with}
 use Rattle.altsvc_grammar.specs.AuthorityGrammar.{IsProtocol, SpellsAuthority}
 use Rattle.altsvc_grammar.specs.ParameterGrammar.{IsToken, EndsParameters, ParameterRefused}
 use Rattle.altsvc_grammar.specs.ValueGrammar.{most_value_bytes, Slot, AreSlots, IsSlot, slots_before, slot_then, elements_of, Alternative, alternative_then, IsAlternative, Element, Clear, Offered, element_then, IsElement, SpellsValue}
@@ -61,7 +60,7 @@ pub record IsNoEquals (n : ℕ) (y : List ℕ) (q : ℕ) : Type 0 where
   pub valid : IsToken token
   pub no_clear : token ≢ codes "clear"
   pub longest : BeginsIn is_token rest → ⊥
-  pub no_equals : begins_with 61 rest ≡ false
+  pub no_equals : (more : List ℕ) → rest ≢ 61 ∷ more
   pub place : q + length rest ≡ n
 
 -- the first `%` of a token with `=` that isn't the encoded form of a byte
@@ -112,7 +111,7 @@ pub record IsBadParameter (n : ℕ) (y : List ℕ) (q : ℕ) : Type 0 where
 -- where an element may end: behind `clear` no token's byte and no `=` stands, behind an alternative nothing that its
 -- last parameter goes on with, and no further parameter
 abbrev pub EndsElement : Element → List ℕ → ℕ → Type 0
-EndsElement Clear w byte = (BeginsIn is_token w → ⊥) × (begins_with 61 w ≡ false)
+EndsElement Clear w byte = (BeginsIn is_token w → ⊥) × ((more : List ℕ) → w ≢ 61 ∷ more)
 EndsElement (Offered a) w byte = EndsParameters a.parameters w × (byte ≢ 59)
 
 -- an element, blanks, and neither a comma nor the end

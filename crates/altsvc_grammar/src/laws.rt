@@ -10,7 +10,7 @@ ghost use Rattle.altsvc_grammar.specs.Steps.{refused};
 ghost use Rattle.altsvc_grammar.specs.UsedGrammar.{SpellsUsed, UsedRefusedAt, OneUsed};
 ghost use Rattle.altsvc_grammar.specs.UsedReading.{read_used, used_refused};
 ghost use Rattle.altsvc_grammar.specs.declared.refusal.UsedRefusal.{UsedRefusal};
-ghost use Rattle.altsvc_grammar.specs.Valid.{IsAltSvc};
+ghost use Rattle.altsvc_grammar.specs.Valid.{IsAltSvc, IsUsed};
 ghost use Rattle.altsvc_grammar.specs.Written.{value_text, used_text};
 ghost use Rattle.altsvc_grammar.specs.AuthorityReading.{read_authority};
 ghost use Rattle.altsvc_grammar.specs.AuthorityGrammar.{SpellsAuthority};
@@ -61,6 +61,11 @@ pub fn used_values_are_read()
     ensures err { (x : List ℕ) (at : At UsedRefusal) → read_used x ≡ Err at → UsedRefusedAt x at.place at.reason }
     ensures spelled { (x : List ℕ) (used : Host × ℕ) → SpellsUsed x used → read_used x ≡ Ok used }
     ensures refused { (x : List ℕ) (q : ℕ) (r : UsedRefusal) → UsedRefusedAt x q r → read_used x ≡ used_refused q r }
+{}
+
+/// A value of Alt-Used that is spelled is valid: its host is in its form, and its port is from 1 to 65535.
+pub fn spelled_used_values_are_valid()
+    ensures { (x : List ℕ) (used : Host × ℕ) → SpellsUsed x used → IsUsed used }
 {}
 
 /// Each text is exactly one value of Alt-Used or refused at exactly one place for one reason, and never both.

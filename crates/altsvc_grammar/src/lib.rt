@@ -32,9 +32,9 @@ pub use alt::{Alt, Alts};
 pub use alt_key::{AltKey, same_key};
 pub use alt_svc::AltSvc;
 pub use laws::{
-    authorities_are_read, one_alt_svc, one_alt_used, one_key_where_equal, spelled_values_are_valid,
-    used_values_are_read, values_are_read, written_used_values_are_read_back,
-    written_values_are_read_back,
+    authorities_are_read, one_alt_svc, one_alt_used, one_key_where_equal,
+    spelled_used_values_are_valid, spelled_values_are_valid, used_values_are_read, values_are_read,
+    written_used_values_are_read_back, written_values_are_read_back,
 };
 pub use refusal::{AltRefusal, UsedRefusal};
 pub use show::show_text;
