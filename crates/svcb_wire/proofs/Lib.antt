@@ -1,6 +1,7 @@
 pub mod Pairs
 pub mod Writing
 pub mod Keys
+pub mod Presence
 pub mod Items
 pub mod Readers
 pub mod ValueForms

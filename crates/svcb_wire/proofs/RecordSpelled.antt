@@ -23,6 +23,7 @@ use Rattle.svcb_wire.proofs.Pairs.{pair_reads}
 use Rattle.svcb_wire.proofs.ParamSteps.{short_reads, order_reads, past_reads, value_refused}
 use Rattle.svcb_wire.proofs.ParamLists.{reads, reads_stop, passes}
 use Rattle.svcb_wire.proofs.RecordSays.{Says, record_says}
+use Rattle.alt_base.proofs.Variants.{same_ok}
 
 sized_reads : (x : List ℕ) → length x ≤ 65535 → 2 ≤ length x → read_record x ≡ behind_target (big_number 2 x) x (read_target x)
 sized_reads x most two =
@@ -112,9 +113,6 @@ refused_reads x q TooLong bytes s = let a : nat_lt 65535 (length x) ≡ true = l
 either_says : (x : List ℕ) (r : RecordAnswer) → Says x r → ((value : Svcb) × SpellsRecord x value) ⊎ ((q : ℕ) × (reason : WireRefusal) × RecordRefusedAt x q reason)
 either_says x (Ok value) s = inl (value, s)
 either_says x (Err at) s = inr (at.place, at.reason, s)
-
-same_ok : (value value' : Svcb) → (let a : RecordAnswer = Ok value in a) ≡ Ok value' → value ≡ value'
-same_ok value value' e = cc
 
 same_refused : (q q' : ℕ) (reason reason' : WireRefusal) → (let a : RecordAnswer = refused q reason in a) ≡ refused q' reason' → (q ≡ q') × (reason ≡ reason')
 same_refused q q' reason reason' e =

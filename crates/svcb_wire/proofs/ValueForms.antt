@@ -13,6 +13,7 @@ use Rattle.svcb_wire.proofs.Pairs.{pair_reads, pair_below, pair_whole}
 use Rattle.svcb_wire.proofs.Keys.{keys_says, keys_reads}
 use Rattle.svcb_wire.proofs.Items.{Items, IsReader, items_says, items_reads}
 use Rattle.svcb_wire.proofs.Readers.{id_reader, address_reader}
+use Rattle.alt_base.proofs.Variants.{same_some}
 
 -- the parameter is the one of this key and this value
 pub record IsOf (key : ℕ) (value : List ℕ) (param : Param) : Type 0 where
@@ -23,9 +24,6 @@ pub record IsOf (key : ℕ) (value : List ℕ) (param : Param) : Type 0 where
 some_octet : {A : Type 0} → (v : List ℕ) (r : Option A) → 1 ≤ length v → where_some v r ≡ r
 some_octet [] r h = absurd (omega arith)
 some_octet (b ∷ bs) r h = refl
-
-some_param : (p q : Param) → (let a : Option Param = Some p in a) ≡ Some q → p ≡ q
-some_param p q e = cc
 
 keys_some : (keys : List ℕ) (b : ℕ) (bs : List ℕ) → keys_octets keys ≡ b ∷ bs → 1 ≤ length keys
 keys_some [] b bs e = cc
@@ -43,7 +41,7 @@ keys_form (b ∷ bs) keys bytes e =
 
 mandatory_says : (r : Option (List ℕ)) (v : List ℕ) (param : Param) → AreBytes v → read_keys v ≡ r → option_map Mandatory r ≡ Some param → IsOf 0 v param
 mandatory_says None v param bytes is e = cc
-mandatory_says (Some keys) v param bytes is e = subst (λ p. IsOf 0 v p) (some_param _ _ e) (keys_form v keys bytes is)
+mandatory_says (Some keys) v param bytes is e = subst (λ p. IsOf 0 v p) (same_some _ _ e) (keys_form v keys bytes is)
 
 items_some : (octets : Items → List ℕ) (items : Items) (b : ℕ) (bs : List ℕ) → octets [] ≡ [] → octets items ≡ b ∷ bs → 1 ≤ length items
 items_some octets [] b bs n e = cc
@@ -65,29 +63,29 @@ alpn_says : (r : Option Items) (v : List ℕ) (param : Param) → AreBytes v →
 alpn_says None v param bytes is e = cc
 alpn_says (Some ids) v param bytes is e =
     let s = items_form first_id ids_octets AreIds v ids id_reader bytes is in
-    subst (λ p. IsOf 1 v p) (some_param _ _ e) (record { form = (s.some, s.are); key_is = refl; value_is = s.whole })
+    subst (λ p. IsOf 1 v p) (same_some _ _ e) (record { form = (s.some, s.are); key_is = refl; value_is = s.whole })
 
 v4_says : (r : Option Items) (v : List ℕ) (param : Param) → AreBytes v → read_items (first_address 4) v ≡ r → option_map V4Hint r ≡ Some param → IsOf 4 v param
 v4_says None v param bytes is e = cc
 v4_says (Some addresses) v param bytes is e =
     let s = items_form (first_address 4) addresses_octets (AreAddresses 4) v addresses (address_reader 4 (omega arith)) bytes is in
-    subst (λ p. IsOf 4 v p) (some_param _ _ e) (record { form = (s.some, s.are); key_is = refl; value_is = s.whole })
+    subst (λ p. IsOf 4 v p) (same_some _ _ e) (record { form = (s.some, s.are); key_is = refl; value_is = s.whole })
 
 v6_says : (r : Option Items) (v : List ℕ) (param : Param) → AreBytes v → read_items (first_address 16) v ≡ r → option_map V6Hint r ≡ Some param → IsOf 6 v param
 v6_says None v param bytes is e = cc
 v6_says (Some addresses) v param bytes is e =
     let s = items_form (first_address 16) addresses_octets (AreAddresses 16) v addresses (address_reader 16 (omega arith)) bytes is in
-    subst (λ p. IsOf 6 v p) (some_param _ _ e) (record { form = (s.some, s.are); key_is = refl; value_is = s.whole })
+    subst (λ p. IsOf 6 v p) (same_some _ _ e) (record { form = (s.some, s.are); key_is = refl; value_is = s.whole })
 
 nothing_says : (v : List ℕ) (param : Param) → read_nothing v ≡ Some param → IsOf 2 v param
-nothing_says [] param e = subst (λ p. IsOf 2 [] p) (some_param _ _ e) (record { form = tt; key_is = refl; value_is = refl })
+nothing_says [] param e = subst (λ p. IsOf 2 [] p) (same_some _ _ e) (record { form = tt; key_is = refl; value_is = refl })
 nothing_says (b ∷ bs) param e = cc
 
 port_says : (t : Bool) (v : List ℕ) (param : Param) → AreBytes v → nat_eq (length v) 2 ≡ t → cond t (Some (Port (big_number 2 v))) None ≡ Some param → IsOf 3 v param
 port_says false v param bytes p e = cc
 port_says true v param bytes p e =
     let two : length v ≡ 2 = true_eq _ _ p in
-    subst (λ q. IsOf 3 v q) (some_param _ _ e) (record { form = pair_below v bytes (omega (arith, two)); key_is = refl; value_is = pair_whole v bytes two })
+    subst (λ q. IsOf 3 v q) (same_some _ _ e) (record { form = pair_below v bytes (omega (arith, two)); key_is = refl; value_is = pair_whole v bytes two })
 
 other_key : (key : ℕ) → key < 65536 → key ≢ 0 → key ≢ 1 → key ≢ 2 → key ≢ 3 → key ≢ 4 → key ≢ 6 → (t : Bool) → nat_eq key 5 ≡ t → (key ≡ 5) ⊎ ((6 < key) × (key < 65536))
 other_key key h a b c d e f true p = inl (true_eq _ _ p)
@@ -106,7 +104,7 @@ value_by false false false true e f key v param h bytes p q r s t u is = same_ke
 value_by false false false false true f key v param h bytes p q r s t u is = same_key key 4 v param (true_eq _ _ t) (v4_says (read_items (first_address 4) v) v param bytes refl is)
 value_by false false false false false true key v param h bytes p q r s t u is = same_key key 6 v param (true_eq _ _ u) (v6_says (read_items (first_address 16) v) v param bytes refl is)
 value_by false false false false false false key v param h bytes p q r s t u is =
-    subst (λ k. IsOf key v k) (some_param _ _ is) (record {
+    subst (λ k. IsOf key v k) (same_some _ _ is) (record {
       form = (other_key key h (false_eq _ _ p) (false_eq _ _ q) (false_eq _ _ r) (false_eq _ _ s) (false_eq _ _ t) (false_eq _ _ u) (nat_eq key 5) refl, bytes);
       key_is = refl;
       value_is = refl;

@@ -85,33 +85,27 @@ fn a_key_and_a_value(rt: HostRuntime) -> Result<(), Fail> {
 
 #[test]
 fn octets_that_are_refused(rt: HostRuntime) {
-    let alloc = rt.alloc();
-    refuses(&rt, alloc, b"", 0, WireRefusal::Short);
-    refuses(&rt, alloc, b"\x00", 1, WireRefusal::Short);
-    refuses(&rt, alloc, b"\x00\x01", 2, WireRefusal::BadTarget);
-    refuses(&rt, alloc, b"\x00\x01\xc0\x00", 2, WireRefusal::BadTarget);
-    refuses(&rt, alloc, b"\x00\x01\x00\x00", 4, WireRefusal::Short);
-    refuses(
-        &rt,
-        alloc,
-        b"\x00\x01\x00\x00\x02\x00",
-        6,
-        WireRefusal::Short,
-    );
-    refuses(
-        &rt,
-        alloc,
-        b"\x00\x01\x00\x00\x03\x00\x02\x01\xbb\x00\x03\x00\x02\x01\xbb",
-        9,
-        WireRefusal::KeyOrder,
-    );
-    refuses(
-        &rt,
-        alloc,
-        b"\x00\x01\x00\x00\x03\x00\x03\x01\xbb",
-        3,
-        WireRefusal::ParamPast,
-    );
+    let rows: [(&[u8], u32, WireRefusal); 8] = [
+        (b"", 0, WireRefusal::Short),
+        (b"\x00", 1, WireRefusal::Short),
+        (b"\x00\x01", 2, WireRefusal::BadTarget),
+        (b"\x00\x01\xc0\x00", 2, WireRefusal::BadTarget),
+        (b"\x00\x01\x00\x00", 4, WireRefusal::Short),
+        (b"\x00\x01\x00\x00\x02\x00", 6, WireRefusal::Short),
+        (
+            b"\x00\x01\x00\x00\x03\x00\x02\x01\xbb\x00\x03\x00\x02\x01\xbb",
+            9,
+            WireRefusal::KeyOrder,
+        ),
+        (
+            b"\x00\x01\x00\x00\x03\x00\x03\x01\xbb",
+            3,
+            WireRefusal::ParamPast,
+        ),
+    ];
+    for (octets, place, reason) in rows {
+        refuses(&rt, rt.alloc(), octets, place, reason);
+    }
 }
 
 #[test]
@@ -148,7 +142,7 @@ fn lengths(rt: HostRuntime) -> Result<(), Fail> {
 #[test]
 fn records_that_a_client_can_use(rt: HostRuntime) -> Result<(), Fail> {
     // The octets, the supported protocols, whether the record is consistent, and whether it is compatible.
-    let rows: [(&[u8], Protos, bool, bool); 8] = [
+    let rows: [(&[u8], Protos, bool, bool); 10] = [
         (b"\x00\x01\x00", HTTP2, true, true),
         (b"\x00\x01\x00\x00\x02\x00\x00", ALL, false, false),
         (b"\x00\x01\x00\x00\x00\x00\x02\x00\x04", ALL, false, true),
@@ -157,6 +151,18 @@ fn records_that_a_client_can_use(rt: HostRuntime) -> Result<(), Fail> {
             ALL,
             true,
             false,
+        ),
+        (
+            b"\x00\x01\x00\x00\x00\x00\x04\x00\x01\x00\x03\x00\x01\x00\x03\x02h2\x00\x03\x00\x02\x01\xbb",
+            HTTP2,
+            true,
+            true,
+        ),
+        (
+            b"\x00\x01\x00\x00\x00\x00\x04\x00\x01\x00\x03\x00\x01\x00\x03\x02h2\x00\x05\x00\x00",
+            HTTP2,
+            false,
+            true,
         ),
         (b"\x00\x01\x00\x00\x03\x00\x02\x00\x00", ALL, true, false),
         (

@@ -1,4 +1,4 @@
-ghost use Rattle.std.specs.Prelude.{◌≡◌, ◌&&◌, ◌||◌, not, nat_eq, codes};
+ghost use Rattle.std.specs.Prelude.{◌≡◌, ◌≤◌, length, take, ◌&&◌, ◌||◌, not, nat_eq, codes};
 ghost use Rattle.std.specs.List.{list_any, list_all};
 ghost use Rattle.std.specs.Cmp.Lexicographic.{pointwise};
 ghost use Rattle.svcb_wire.specs.Octets.{key_of};
@@ -14,10 +14,41 @@ fn has_key(params: &[Param], key: u16) -> bool
     params.iter().any(|param| param_key(param) == key)
 }
 
+// How many parameters at the front have keys below this one.
+fn below(params: &[Param], key: u16) -> usize
+    ensures { result ≤ length params.now }
+{
+    for (i, param) in params.iter().enumerate() {
+        if param_key(param) >= key {
+            return i;
+        }
+    }
+    params.len()
+}
+
+// Whether the first of these parameters has this key.
+fn begins_with(params: &[Param], key: u16) -> bool
+    ensures { result ≡ has_key key (take 1 params.now) }
+{
+    match params.first() {
+        Some(param) => param_key(param) == key,
+        None => false,
+    }
+}
+
+// Whether each of these keys is present. Where the parameters and the keys both rise, as in each record that was read, it
+// goes through either list once; only the first key that isn't found that way is sought among all parameters.
 fn all_present(params: &[Param], keys: &[u16]) -> bool
     ensures { result ≡ list_all (λ key. has_key key params.now) keys.now }
 {
-    keys.iter().all(|key| has_key(params, *key))
+    let mut at = 0;
+    for key in keys {
+        at += below(&params[at..], *key);
+        if !begins_with(&params[at..], *key) && !has_key(params, *key) {
+            return false;
+        }
+    }
+    true
 }
 
 // Whether the other parameters have what this one needs.
@@ -38,7 +69,7 @@ fn all_stand(params: &[Param]) -> bool
 }
 
 /// Whether each key that mandatory lists is present (RFC 9460 8), and no-default-alpn stands only beside alpn (RFC 9460
-/// 7.1.1). It takes no memory.
+/// 7.1.1). It takes no memory, and where the keys rise, as [`crate::parse`] gives them, one pass over each list.
 pub fn consistent(value: &Svcb) -> bool
     ensures { result ≡ is_consistent value.now }
 {
