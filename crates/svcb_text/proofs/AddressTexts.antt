@@ -1,13 +1,13 @@
 -- No comma stands in an address.
-use Rattle.std.proofs.Common.{◌≡◌, ℕ, ◌<◌, ◌≤◌, Bool, true, false, nat_eq, List, [], ◌∷◌, ◌++◌, decimal, append_assoc, refl, sym, ◌∙◌, subst, arith, inl, inr}
+use Rattle.std.proofs.Common.{◌≡◌, ℕ, ◌<◌, ◌≤◌, Bool, true, false, nat_eq, List, [], ◌∷◌, ◌++◌, decimal, refl, sym, ◌∙◌, subst, arith, inl, inr}
 use Rattle.std.specs.Char.{digit_value}
 use Rattle.std.specs.Str.Parse.{AllDigits}
-use Rattle.std.specs.Net.Text.{dotted_text}
 use Rattle.std.specs.Net.Grammar.{IsDotted, IsColonHex, IsGroupsAfter}
 use Rattle.std.proofs.lemmas.Fmt.{decimal_is_IsNumeral}
 use Rattle.alt_base.proofs.Numbers.{true_eq}
 use Rattle.origin_values.specs.HostGrammar.{SpellsV4, SpellsV6}
 use Rattle.svcb_text.proofs.CommaItems.{NoComma}
+use Rattle.alt_base.proofs.Digits.{dotted_assoc}
 
 no_comma_append : (xs ys : List ℕ) → NoComma xs → NoComma ys → NoComma (xs ++ ys)
 no_comma_append [] ys h k = k
@@ -30,9 +30,6 @@ digits_no_comma radix (c ∷ ds) small h = (digit_no_comma c (omega (arith, h.0)
 
 number_no_comma : (n : ℕ) → n < 256 → NoComma (decimal n)
 number_no_comma n small = digits_no_comma 10 (decimal n) (omega arith) (decimal_is_IsNumeral n (omega arith)).0.1
-
-dotted_assoc : (a b c d : ℕ) → dotted_text a b c d ≡ decimal a ++ 46 ∷ (decimal b ++ 46 ∷ (decimal c ++ 46 ∷ decimal d))
-dotted_assoc a b c d = simp append_assoc
 
 dot_then : (n : ℕ) (rest : List ℕ) → n < 256 → NoComma rest → NoComma (decimal n ++ 46 ∷ rest)
 dot_then n rest small h = no_comma_append (decimal n) (46 ∷ rest) (number_no_comma n small) (refl, h)

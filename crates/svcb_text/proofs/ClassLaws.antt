@@ -5,11 +5,11 @@ use Rattle.svcb_text.specs.declared.token.Style.{Style}
 use Rattle.svcb_text.specs.declared.token.Style.TheVariants.{Contiguous, InQuotes}
 use Rattle.svcb_text.specs.StringGrammar.{is_raw, is_escapable}
 use Rattle.svcb_text.specs.StringReading.{is_end}
-use Rattle.svcb_text.proofs.Truth.{clash}
+use Rattle.alt_base.proofs.Booleans.{contradicts}
 
 -- a byte that isn't in a class isn't one that is
 pub other_byte : (class : ℕ → Bool) (b n : ℕ) → class b ≡ true → class n ≡ false → b ≢ n
-other_byte class b n has hasnt e = clash (class n) (subst (λ m. class m ≡ true) e has) hasnt
+other_byte class b n has hasnt e = contradicts (class n) (subst (λ m. class m ≡ true) e has) hasnt
 
 pub raw_no_backslash : (style : Style) (b : ℕ) → is_raw style b ≡ true → b ≢ 92
 raw_no_backslash Contiguous b h = other_byte (is_raw Contiguous) b 92 h refl

@@ -1,6 +1,5 @@
 -- The items between the commas of a text, read one by one.
-use Rattle.std.proofs.Common.{◌≡◌, ◌≢◌, ℕ, suc, ◌+◌, ◌<◌, false, nat_eq, List, [], ◌∷◌, ◌++◌, length, drop, get_or, refl, ap, sym, ◌∙◌, arith, add-one}
-use Rattle.std.proofs.Math.Seq.{drop-cons}
+use Rattle.std.proofs.Common.{◌≡◌, ◌≢◌, ℕ, ◌+◌, false, nat_eq, List, [], ◌∷◌, ◌++◌, length, drop, refl, ap, sym, ◌∙◌, arith}
 use Rattle.std.specs.List.{join_with_byte, onto_first}
 use Rattle.std.proofs.lemmas.List.Splits.{join_with_byte-slice_split, length-slice_split}
 use Rattle.svcb_text.specs.ValueReading.{items_of}
@@ -33,13 +32,6 @@ items_whole text = sym (join_with_byte-slice_split 44 text)
 
 pub items_some : (text : List ℕ) → items_of text ≢ []
 items_some text none = omega (arith, length-slice_split (λ b. nat_eq b 44) text, ap length none)
-
-next_same : (items : List (List ℕ)) (count : ℕ) (item : List ℕ) → (count < length items) × (item ≡ get_or items count item) → drop count items ≡ item ∷ drop (suc count) items
-next_same items count item h = drop-cons items count item h.0 ∙ ap (λ x. x ∷ drop (suc count) items) (sym h.1)
-
--- the next item is the first of those that are left
-pub next_item : (items : List (List ℕ)) (count : ℕ) (item : List ℕ) → (count < length items) × (item ≡ get_or items count item) → drop count items ≡ item ∷ drop (count + 1) items
-next_item items count item h = rw add-one (next_same items count item h)
 
 -- of the items of a text this one is next, behind so many
 abbrev pub IsNext : List ℕ → List ℕ → ℕ → Type 0

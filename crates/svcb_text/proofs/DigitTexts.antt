@@ -9,20 +9,12 @@ use Rattle.std.specs.Str.Parse.{AllDigits, IsNumeral, digits_value, digits_value
 use Rattle.std.proofs.lemmas.Fmt.{decimal-digits_value, decimal_is_IsNumeral, decimal_digit, first_decimal, length-decimal-le}
 use Rattle.std.proofs.lemmas.Int.Digits.{digits_value-lt}
 use Rattle.std.proofs.lemmas.Str.Parse.{IsNumeralModel, numerals_by_value, tells_digits}
-use Rattle.origin_values.proofs.Comparisons.{le_from_test, test_from_le}
 use Rattle.alt_base.proofs.Conjunctions.{both}
-use Rattle.origin_values.proofs.Names.{digits_pass}
-use Rattle.origin_values.proofs.Ports.{digit_code, value_of_digit}
-use Rattle.alt_base.proofs.Numbers.{eq_true}
+use Rattle.alt_base.proofs.Numbers.{eq_true, true_le, le_true}
 use Rattle.svcb_text.specs.KeyNames.{number_of, is_text}
 use Rattle.svcb_text.specs.ValueGrammar.{SpellsPort}
 use Rattle.svcb_text.specs.ValueReading.{read_port}
-
-pub digits_are : (ds : List ℕ) → list_all is_ascii_digit ds ≡ true → AllDigits 10 ds
-digits_are [] h = tt
-digits_are (c ∷ ds) h =
-    let t = both (is_ascii_digit c) (list_all is_ascii_digit ds) h in
-    (omega (arith, value_of_digit c t.0, digit_code c t.0), digits_are ds t.1)
+use Rattle.alt_base.proofs.Digits.{all_digits, value_grows, value_of_digit, digits_all}
 
 numerals : IsNumeralModel (AllDigits 10) (digits_value 10)
 numerals = numerals_by_value (AllDigits 10) tells_digits
@@ -31,13 +23,9 @@ numerals = numerals_by_value (AllDigits 10) tells_digits
 short_value : (ds : List ℕ) → list_all is_ascii_digit ds ≡ true → length ds ≤ 5 → digits_value 10 ds < 100000
 short_value ds h short =
     let bound : 10 ^ length ds ≤ 10 ^ 5 = pow-le-pow_right (omega arith) short in
-    omega (arith, digits_value-lt 10 ds (digits_are ds h), bound)
+    omega (arith, digits_value-lt 10 ds (all_digits ds h), bound)
 
 -- more digits only make the value larger
-value_grows : (ds : List ℕ) (n : ℕ) → n ≤ digits_value_after 10 n ds
-value_grows [] n = omega arith
-value_grows (c ∷ cs) n = omega (arith, value_grows cs (n * 10 + digit_value c))
-
 room_here : (v b total : ℕ) (rest : List ℕ) → list_all is_ascii_digit (b ∷ rest) ≡ true → digits_value_after 10 v (b ∷ rest) ≡ total → v * 10 + (b - 48) ≤ total
 room_here v b total rest digits is =
     let t = both (is_ascii_digit b) (list_all is_ascii_digit rest) digits in
@@ -63,16 +51,16 @@ port_spells (b ∷ bs) port h = go (list_all is_ascii_digit (b ∷ bs) && (nat_l
         let u = both (nat_le (length (b ∷ bs)) 5) (nat_le (digits_value 10 (b ∷ bs)) 65535) t.1 in
         let value : port ≡ digits_value 10 (b ∷ bs) = cc in
         record {
-          numeral = (omega arith, digits_are (b ∷ bs) t.0);
-          short = le_from_test _ _ u.0;
+          numeral = (omega arith, all_digits (b ∷ bs) t.0);
+          short = true_le _ _ u.0;
           value = value;
-          most = omega (arith, le_from_test (digits_value 10 (b ∷ bs)) 65535 u.1, value);
+          most = omega (arith, true_le (digits_value 10 (b ∷ bs)) 65535 u.1, value);
         }
 
 pub port_read : (text : List ℕ) (port : ℕ) → SpellsPort text port → read_port text ≡ Some port
 port_read [] port s = absurd (omega (arith, s.numeral.0))
 port_read (b ∷ bs) port s =
-    rw (digits_pass (b ∷ bs) s.numeral.1, test_from_le (length (b ∷ bs)) 5 s.short, test_from_le (digits_value 10 (b ∷ bs)) 65535 (omega (arith, s.value, s.most))) (ap Some (sym s.value))
+    rw (digits_all (b ∷ bs) s.numeral.1, le_true (length (b ∷ bs)) 5 s.short, le_true (digits_value 10 (b ∷ bs)) 65535 (omega (arith, s.value, s.most))) (ap Some (sym s.value))
 
 same_bytes : (x : List ℕ) → is_text x x ≡ true
 same_bytes [] = refl
@@ -90,13 +78,13 @@ number_is (b ∷ bs) n h = go ((list_all is_ascii_digit (b ∷ bs) && nat_le (le
         let t = both (list_all is_ascii_digit (b ∷ bs) && nat_le (length (b ∷ bs)) 5) (nat_le (digits_value 10 (b ∷ bs)) 65535 && is_text (b ∷ bs) (decimal (digits_value 10 (b ∷ bs)))) is in
         let u = both (nat_le (digits_value 10 (b ∷ bs)) 65535) (is_text (b ∷ bs) (decimal (digits_value 10 (b ∷ bs)))) t.1 in
         let value : digits_value 10 (b ∷ bs) ≡ n = cc in
-        (same_text (b ∷ bs) (decimal (digits_value 10 (b ∷ bs))) (sym u.1) ∙ ap decimal value, omega (arith, le_from_test (digits_value 10 (b ∷ bs)) 65535 u.0, value))
+        (same_text (b ∷ bs) (decimal (digits_value 10 (b ∷ bs))) (sym u.1) ∙ ap decimal value, omega (arith, true_le (digits_value 10 (b ∷ bs)) 65535 u.0, value))
 
 number_from : (ds : List ℕ) (n : ℕ) → ds ≡ decimal n → IsNumeral 10 ds → digits_value 10 ds ≡ n → length ds ≤ 5 → n < 65536 → number_of ds ≡ Some n
 number_from [] n is numeral value short small = absurd (omega (arith, numeral.0))
 number_from (b ∷ bs) n is numeral value short small =
     let same : is_text (b ∷ bs) (decimal (digits_value 10 (b ∷ bs))) ≡ true = ap (λ m. is_text (b ∷ bs) (decimal m)) value ∙ ap (λ xs. is_text (b ∷ bs) xs) (sym is) ∙ same_bytes (b ∷ bs) in
-    rw (digits_pass (b ∷ bs) numeral.1, test_from_le (length (b ∷ bs)) 5 short, test_from_le (digits_value 10 (b ∷ bs)) 65535 (omega (arith, value, small)), same) (ap Some value)
+    rw (digits_all (b ∷ bs) numeral.1, le_true (length (b ∷ bs)) 5 short, le_true (digits_value 10 (b ∷ bs)) 65535 (omega (arith, value, small)), same) (ap Some value)
 
 pub number_read : (n : ℕ) → n < 65536 → number_of (decimal n) ≡ Some n
 number_read n small =
@@ -140,6 +128,6 @@ number_plain (b ∷ bs) h = go (list_all is_ascii_digit (b ∷ bs)) (nat_le (len
     go true false u p q r = refl
     go true true false p q r = refl
     go true true true p q r =
-        let below : digits_value 10 (b ∷ bs) < 2 ^ 64 = omega (arith, le_from_test (digits_value 10 (b ∷ bs)) 65535 r) in
-        let back : decimal (digits_value 10 (b ∷ bs)) ≡ b ∷ bs = decimal-digits_value numerals (b ∷ bs) (digits_are (b ∷ bs) p) (omega arith) one_digit below in
+        let below : digits_value 10 (b ∷ bs) < 2 ^ 64 = omega (arith, true_le (digits_value 10 (b ∷ bs)) 65535 r) in
+        let back : decimal (digits_value 10 (b ∷ bs)) ≡ b ∷ bs = decimal-digits_value numerals (b ∷ bs) (all_digits (b ∷ bs) p) (omega arith) one_digit below in
         rw (ap (λ xs. is_text (b ∷ bs) xs) back ∙ same_bytes (b ∷ bs)) refl

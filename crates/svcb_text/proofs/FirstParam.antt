@@ -25,6 +25,8 @@ use Rattle.svcb_text.proofs.StringLaws.{string_spells, string_refuses, string_by
 use Rattle.svcb_text.proofs.KeyLaws.{named_key, key_is_named, name_bytes}
 use Rattle.svcb_text.proofs.ValueLaws.{value_spells, value_read}
 use Rattle.svcb_text.proofs.Items.{key_ends, ends_read, key_run, key_rest}
+use Rattle.alt_base.proofs.Booleans.{contradicts}
+use Rattle.alt_base.proofs.Variants.{some_none}
 
 -- a given parameter at the front, and a blank or the end behind it
 pub record IsFirst (params : List Param) (x : List ℕ) (given : GivenParam) (rest : List ℕ) : Type 0 where
@@ -92,13 +94,7 @@ value_says : (o : Option Param) (params : List Param) (place start key count : �
     → IsFirst params x given rest → given_key given ≡ key → AreBytes (given_value given).bytes → start ≡ place + length (given_head given) → count ≡ length (given_head given) + length (given_string given)
     → read_value key (given_value given) ≡ o → ParamSays params place x (by_value o start key count)
 value_says None params place start key count x given rest first of_key bytes at size is =
-    record { given = given; rest = rest; first = first; of_key = of_key; bad = λ param s. none key (given_value given) param is (value_read key (given_value given) param s); at = at }
-  where
-    none : (k : ℕ) (v : Unescaped) (param : Param) → read_value k v ≡ None → read_value k v ≡ Some param → ⊥
-    none k v param a b = clash (read_value k v) param a b
-      where
-        clash : (o : Option Param) (p : Param) → o ≡ None → o ≡ Some p → ⊥
-        clash o p a b = cc
+    record { given = given; rest = rest; first = first; of_key = of_key; bad = λ param s. some_none param (read_value key (given_value given)) (value_read key (given_value given) param s) is; at = at }
 value_says (Some param) params place start key count x given rest first of_key bytes at size is =
     let fits : key < 65536 = subst (λ k. k < 65536) of_key first.is_given.key in
     record {
@@ -150,17 +146,11 @@ behind_says params place key x (b ∷ bs) bytes e fits ends new = go (nat_eq b 6
     go true is = string_says (read_string bs) params place key x bs bytes.1 (e ∙ ap (λ c. key_name key ++ c ∷ bs) (true_eq b 61 is)) fits new refl
     go false is = alone_says params place key x (b ∷ bs) e fits (blank is ends) new
 
-clash_some : (o : Option ℕ) (key : ℕ) → o ≡ None → o ≡ Some key → ⊥
-clash_some o key a b = cc
-
-clash_true : (t : Bool) → t ≡ true → t ≡ false → ⊥
-clash_true t a b = cc
-
 -- a key that the run in front names
 named_says : (o : Option ℕ) (params : List Param) (place : ℕ) (x run rest : List ℕ) → AreBytes x → run_of is_key_byte x ≡ run → after_run is_key_byte x ≡ rest → x ≡ run ++ rest → key_named run ≡ o
     → ParamSays params place x (by_key o params place (length run) rest)
 named_says None params place x run rest bytes run_is rest_is split is = record {
-  bad = λ key more fits e ends. clash_some (key_named (key_name key)) key (ap key_named (sym (key_run x (key_name key) more e (name_bytes key fits) ends) ∙ run_is) ∙ is) (key_is_named key fits);
+  bad = λ key more fits e ends. some_none key (key_named (key_name key)) (key_is_named key fits) (ap key_named (sym (key_run x (key_name key) more e (name_bytes key fits) ends) ∙ run_is) ∙ is);
   at = refl;
 }
 named_says (Some key) params place x run rest bytes run_is rest_is split is =
@@ -177,7 +167,7 @@ named_says (Some key) params place x run rest bytes run_is rest_is split is =
         → ParamSays params place x (cond t (cond (has_key key params) (refused place RepeatedKey) (behind_key place key (length run) rest)) (refused place BadKey))
     ends true does name fits e behind = has (has_key key params) refl name fits e behind (key_ends rest does)
     ends false doesnt name fits e behind = record {
-      bad = λ other more small same end. clash_true (ends_key rest) (ap ends_key (sym rest_is ∙ key_rest x (key_name other) more same (name_bytes other small) end) ∙ ends_read more end) doesnt;
+      bad = λ other more small same end. contradicts (ends_key rest) (ap ends_key (sym rest_is ∙ key_rest x (key_name other) more same (name_bytes other small) end) ∙ ends_read more end) doesnt;
       at = refl;
     }
 

@@ -12,12 +12,12 @@ use Rattle.field_text.specs.DeltaGrammar.{SpellsDelta}
 use Rattle.field_text.specs.DeltaReading.{read_delta_seconds}
 use Rattle.field_text.specs.Runs.{AllIn, BeginsIn, run_of, after_run}
 use Rattle.field_text.proofs.DeltaLemmas.{says_some, delta_spelled}
-use Rattle.field_text.proofs.RunLemmas.{run_of-append, after_run-append}
+use Rattle.field_text.proofs.RunLemmas.{run_of-append, after_run-append, AllIn-append}
 use Rattle.dns_names.specs.TextGrammar.{SpellsText}
 use Rattle.dns_names.specs.TextParts.{Part, Raw, Quoted, Decimal, part_text, parts_text, IsPart, AreParts, dotted, AreAllParts}
 use Rattle.dns_names.specs.TextReading.{read_text}
 use Rattle.dns_names.proofs.TextSpelled.{spelled_reads as name_reads}
-use Rattle.alt_base.proofs.Numbers.{eq_false, lt_false}
+use Rattle.alt_base.proofs.Numbers.{eq_false, lt_false, le_true, true_le}
 use Rattle.svcb_text.specs.StringGrammar.{EndsItem}
 use Rattle.svcb_text.specs.TextGrammar.{SpellsPriority, Front, front_text, SpellsFront}
 use Rattle.svcb_text.specs.TextReading.{item_of, after_item, priority_of, by_priority, from_priority, by_target, behind_priority, with_params, read_params, read_record_text}
@@ -41,10 +41,6 @@ numeral_shown (b ∷ bs) h =
     let range : IsInRange 48 57 b = digit_from_value b h.0 in
     (above_blanks b (omega arith), numeral_shown bs h.1)
 
-all_both : (class : ℕ → Bool) (xs ys : List ℕ) → AllIn class xs → AllIn class ys → AllIn class (xs ++ ys)
-all_both class [] ys h g = g
-all_both class (b ∷ bs) ys h g = (h.0, all_both class bs ys h.1 g)
-
 part_shown : (part : Part) → IsPart part → AllIn no_blank (part_text part)
 part_shown (Raw b) h = (above_blanks b (graphic_above b h.0), tt)
 part_shown (Quoted b) h = (refl, (above_blanks b (graphic_above b h.0), tt))
@@ -52,11 +48,11 @@ part_shown (Decimal a b c) h = (refl, (above_blanks a (digit_above a h.0), (abov
 
 parts_shown : (parts : List Part) → AreParts parts → AllIn no_blank (parts_text parts)
 parts_shown [] h = tt
-parts_shown (part ∷ parts) h = all_both no_blank (part_text part) (parts_text parts) (part_shown part h.0) (parts_shown parts h.1)
+parts_shown (part ∷ parts) h = AllIn-append no_blank (part_text part) (parts_text parts) (part_shown part h.0) (parts_shown parts h.1)
 
 dotted_shown : (labels : List (List Part)) → AreAllParts labels → AllIn no_blank (dotted labels)
 dotted_shown [] h = tt
-dotted_shown (parts ∷ labels) h = all_both no_blank (parts_text parts) (46 ∷ dotted labels) (parts_shown parts h.0) (refl, dotted_shown labels h.1)
+dotted_shown (parts ∷ labels) h = AllIn-append no_blank (parts_text parts) (46 ∷ dotted labels) (parts_shown parts h.0) (refl, dotted_shown labels h.1)
 
 dot_shown : (end : List ℕ) → (end ≡ []) ⊎ (end ≡ 46 ∷ []) → AllIn no_blank end
 dot_shown end (inl e) = subst (AllIn no_blank) (sym e) tt
@@ -66,15 +62,9 @@ dot_shown end (inr e) = subst (AllIn no_blank) (sym e) (refl, tt)
 pub name_shown : (x : List ℕ) (name : List (List ℕ)) → SpellsText x name → AllIn no_blank x
 name_shown x name (inl root) = subst (AllIn no_blank) (sym root.0) (refl, tt)
 name_shown x name (inr s) =
-    subst (AllIn no_blank) (sym s.text) (all_both no_blank (dotted s.labels) (parts_text s.last ++ s.end) (dotted_shown s.labels s.valid) (all_both no_blank (parts_text s.last) s.end (parts_shown s.last s.last_valid) (dot_shown s.end s.final_dot)))
+    subst (AllIn no_blank) (sym s.text) (AllIn-append no_blank (dotted s.labels) (parts_text s.last ++ s.end) (dotted_shown s.labels s.valid) (AllIn-append no_blank (parts_text s.last) s.end (parts_shown s.last s.last_valid) (dot_shown s.end s.final_dot)))
 
 -- the priority that an item writes
-le_true : (a b : ℕ) → a ≤ b → nat_le a b ≡ true
-le_true a b h = grind (arith, nat_tests)
-
-true_le : (a b : ℕ) → nat_le a b ≡ true → a ≤ b
-true_le a b h = grind (arith, nat_tests)
-
 pub priority_says : (item : List ℕ) (priority : ℕ) → priority_of (read_delta_seconds item) ≡ Some priority → SpellsPriority item priority
 priority_says item priority e = by (read_delta_seconds item) refl e
   where

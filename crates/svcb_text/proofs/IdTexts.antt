@@ -2,11 +2,10 @@
 use Rattle.std.proofs.Common.{◌≡◌, ◌≢◌, ◌⊎◌, ℕ, ◌≤◌, Bool, true, false, cond, ◌||◌, nat_eq, nat_le, List, [], ◌∷◌, ◌++◌, length, drop, get_or, map, append_assoc, append-nil, Option, Some, None, refl, ap, sym, ◌∙◌, subst, arith, inl, inr}
 use Rattle.std.specs.List.{join_with_byte}
 use Rattle.dns_names.specs.Names.{AreBytes}
-use Rattle.origin_values.proofs.Comparisons.{le_from_test, test_from_le}
 use Rattle.alt_base.proofs.Conjunctions.{both}
 use Rattle.svcb_wire.specs.Forms.{IsId, AreIds}
 use Rattle.dns_names.proofs.Bytes.{bytes_front, bytes_back}
-use Rattle.alt_base.proofs.Numbers.{true_eq, false_eq, eq_false}
+use Rattle.alt_base.proofs.Numbers.{true_eq, false_eq, eq_false, true_le, le_true}
 use Rattle.svcb_text.specs.ValueGrammar.{IdPart, Plain, Escaped, IsIdPart, AreIdParts, id_part_text, id_part_byte, id_text, IsIdText, AreIdTexts, SpellsIds}
 use Rattle.svcb_text.specs.ValueReading.{is_id, is_escaped, with_id, ids_behind, read_ids}
 
@@ -52,7 +51,7 @@ bytes_count (part ∷ parts) = omega (arith, bytes_count parts)
 
 id_test : (parts : List IdPart) → IsIdText parts → is_id (map id_part_byte parts) ≡ true
 id_test parts s =
-    rw (test_from_le 1 (length (map id_part_byte parts)) (omega (arith, bytes_count parts, s.some)), test_from_le (length (map id_part_byte parts)) 255 (omega (arith, bytes_count parts, s.most))) refl
+    rw (le_true 1 (length (map id_part_byte parts)) (omega (arith, bytes_count parts, s.some)), le_true (length (map id_part_byte parts)) 255 (omega (arith, bytes_count parts, s.most))) refl
 
 last_read : (parts : List IdPart) (ids : List (List ℕ)) → IsIdText parts → ids_behind ids [] (id_text parts) ≡ Some (ids ++ map id_part_byte parts ∷ [])
 last_read parts ids s =
@@ -103,8 +102,8 @@ id_text_from parts valid is =
     let t = both (nat_le 1 (length (map id_part_byte parts))) (nat_le (length (map id_part_byte parts)) 255) is in
     record {
       valid = valid;
-      some = omega (arith, bytes_count parts, le_from_test 1 (length (map id_part_byte parts)) t.0);
-      most = omega (arith, bytes_count parts, le_from_test (length (map id_part_byte parts)) 255 t.1);
+      some = omega (arith, bytes_count parts, true_le 1 (length (map id_part_byte parts)) t.0);
+      most = omega (arith, bytes_count parts, true_le (length (map id_part_byte parts)) 255 t.1);
     }
 
 -- behind a comma

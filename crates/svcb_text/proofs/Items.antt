@@ -9,6 +9,8 @@ use Rattle.svcb_text.specs.StringGrammar.{EndsItem}
 use Rattle.svcb_text.specs.TextGrammar.{AreBlanks}
 use Rattle.svcb_text.specs.TextReading.{ends_key, item_of, after_item}
 use Rattle.svcb_text.specs.TextRefusals.{EndsKey, IsItem}
+use Rattle.std.proofs.lemmas.Bool.{or_cases}
+use Rattle.alt_base.proofs.Booleans.{contradicts}
 
 abbrev pub no_blank : ℕ → Bool
 no_blank b = not (is_blank b)
@@ -20,10 +22,6 @@ not_true false a b = cc
 not_false : (t : Bool) → (not t ≡ true → ⊥) → t ≡ true
 not_false true h = refl
 not_false false h = absurd (h refl)
-
-pub true_not : (t : Bool) → not t ≡ true → t ≡ false
-true_not true h = cc
-true_not false h = refl
 
 pub item_stops : (x : List ℕ) → EndsItem x → BeginsIn no_blank x → ⊥
 item_stops [] e h = h
@@ -62,10 +60,6 @@ blanks_end [] all = tt
 blanks_end (b ∷ bs) all = all.0
 
 -- what may follow a key
-or_true : (a b : Bool) → (a || b) ≡ true → (a ≡ true) ⊎ (b ≡ true)
-or_true true b h = inl refl
-or_true false b h = inr h
-
 true_or : (a b : Bool) → (a ≡ true) ⊎ (b ≡ true) → (a || b) ≡ true
 true_or true b h = refl
 true_or false b (inl h) = cc
@@ -87,7 +81,7 @@ by_ends b (inr h) = inr h
 
 pub key_ends : (x : List ℕ) → ends_key x ≡ true → EndsKey x
 key_ends [] h = tt
-key_ends (b ∷ bs) h = ends_by b (or_true (nat_eq b 61) (is_blank b) h)
+key_ends (b ∷ bs) h = ends_by b (or_cases (nat_eq b 61) (is_blank b) h)
 
 pub ends_read : (x : List ℕ) → EndsKey x → ends_key x ≡ true
 ends_read [] h = refl
@@ -99,7 +93,7 @@ item_ends_key (b ∷ bs) h = inr h
 
 -- a blank is no equals sign, and neither is a key's byte
 pub blank_is : (b : ℕ) → is_blank b ≡ true → (b ≡ 32) ⊎ (b ≡ 9)
-blank_is b h = by (or_true (nat_eq b 32) (nat_eq b 9) h)
+blank_is b h = by (or_cases (nat_eq b 32) (nat_eq b 9) h)
   where
     by : (nat_eq b 32 ≡ true) ⊎ (nat_eq b 9 ≡ true) → (b ≡ 32) ⊎ (b ≡ 9)
     by (inl e) = inl (grind (arith, nat_tests))
@@ -122,10 +116,7 @@ no_key_byte b (inr h) = by (blank_is b h)
 
 pub key_stops : (x : List ℕ) → EndsKey x → BeginsIn is_key_byte x → ⊥
 key_stops [] e h = h
-key_stops (b ∷ bs) e h = clash (is_key_byte b) h (no_key_byte b e)
-  where
-    clash : (t : Bool) → t ≡ true → t ≡ false → ⊥
-    clash t f g = cc
+key_stops (b ∷ bs) e h = contradicts (is_key_byte b) h (no_key_byte b e)
 
 -- a key's bytes, up to what may follow a key
 pub key_run : (x key more : List ℕ) → x ≡ key ++ more → AllIn is_key_byte key → EndsKey more → run_of is_key_byte x ≡ key

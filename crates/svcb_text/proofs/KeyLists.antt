@@ -5,20 +5,23 @@ use Rattle.field_text.specs.Runs.{AllIn}
 use Rattle.svcb_wire.specs.Forms.{AreRising}
 use Rattle.alt_base.proofs.Numbers.{true_eq, false_eq, eq_false, true_lt, false_lt}
 use Rattle.svcb_text.specs.KeyNames.{key_name, key_named, is_key_byte}
-use Rattle.svcb_text.specs.ParamOrder.{IsNew, placed_key, keys_placed, keys_in_order}
+use Rattle.svcb_text.specs.ParamOrder.{IsNew, IsOrderOf}
+use Rattle.svcb_text.specs.Placing.{placed_key}
 use Rattle.svcb_text.specs.ValueGrammar.{AreMandatory, SpellsKeys}
 use Rattle.svcb_text.specs.ValueReading.{items_of, has_number, with_key, then_keys, keys_beside, read_keys}
 use Rattle.svcb_text.proofs.CommaItems.{NoComma, NoCommas, items_joined, items_whole, items_some}
 use Rattle.svcb_text.proofs.KeyLaws.{named_key, key_is_named, name_bytes}
+use Rattle.svcb_text.proofs.Order.{all_placed_by, only_order, placed_order}
+use Rattle.svcb_text.proofs.WrittenOrder.{keys_rise}
+use Rattle.std.proofs.lemmas.Bool.{or_parts}
+use Rattle.alt_base.proofs.Booleans.{or_swap}
 
-or_swap : (a b c : Bool) → (a || (b || c)) ≡ (b || (a || c))
-or_swap true true c = refl
-or_swap true false c = refl
-or_swap false b c = refl
+-- keys placed in turn among others
+abbrev pub keys_placed : List ℕ → List ℕ → List ℕ
+keys_placed before keys = all_placed_by (λ key. key) before keys
 
-pub neither : (a b : Bool) → (a || b) ≡ false → (a ≡ false) × (b ≡ false)
-neither true b h = cc
-neither false b h = (refl, h)
+abbrev pub keys_in_order : List ℕ → List ℕ
+keys_in_order keys = keys_placed [] keys
 
 -- what stands among the keys once one is placed
 placed_has : (key other : ℕ) (keys : List ℕ) → has_number (placed_key key keys) other ≡ (nat_eq key other || has_number keys other)
@@ -51,7 +54,7 @@ record Apart (key : ℕ) (named keys : List ℕ) : Type 0 where
 fresh_apart : (key : ℕ) (named keys : List ℕ) → AreFresh named (placed_key key keys) → Apart key named keys
 fresh_apart key [] keys h = record { new = tt; fresh = tt }
 fresh_apart key (other ∷ named) keys h =
-    let s = neither (nat_eq key other) (has_number keys other) (sym (placed_has key other keys) ∙ h.0) in
+    let s = or_parts (nat_eq key other) (has_number keys other) (sym (placed_has key other keys) ∙ h.0) in
     let rest = fresh_apart key named keys h.1 in
     record { new = (false_eq key other s.0, rest.new); fresh = (s.1, rest.fresh) }
 
@@ -127,28 +130,11 @@ names_some : (named : List ℕ) → named ≢ [] → map key_name named ≢ []
 names_some [] some none = some refl
 names_some (key ∷ named) some none = cc
 
-pub list_read : (text keys : List ℕ) → SpellsKeys text keys → read_keys text ≡ Some keys
-list_read text keys s =
-    ap (λ xs. keys_beside (items_of xs) []) s.spelled
-    ∙ ap (λ items. keys_beside items []) (items_joined (map key_name s.named) (names_some s.named s.some) (names_no_comma s.named s.are_mandatory))
-    ∙ keys_read s.named [] s.are_mandatory (all_fresh s.named) ∙ ap Some (sym s.value)
-
-pub list_spells : (text keys : List ℕ) → read_keys text ≡ Some keys → SpellsKeys text keys
-list_spells text keys h =
-    let s = keys_says (items_of text) [] keys h in
-    record {
-      named = s.named;
-      some = λ none. items_some text (s.texts_are ∙ ap (map key_name) none);
-      are_mandatory = s.are_mandatory;
-      spelled = items_whole text ∙ ap (join_with_byte 44) s.texts_are;
-      value = s.placed;
-    }
-
 -- the keys rise
 placed_rising : (last key : ℕ) (keys : List ℕ) → last < key → key < 65536 → has_number keys key ≡ false → AreRising last keys → AreRising last (placed_key key keys)
 placed_rising last key [] above small fresh rising = (above, small, tt)
 placed_rising last key (first ∷ keys) above small fresh rising =
-    let apart = neither (nat_eq first key) (has_number keys key) fresh in
+    let apart = or_parts (nat_eq first key) (has_number keys key) fresh in
     go (false_eq first key apart.0) (λ higher. placed_rising first key keys higher small apart.1 rising.2) (nat_lt key first) refl
   where
     go : first ≢ key → (first < key → AreRising first (placed_key key keys)) → (t : Bool) → nat_lt key first ≡ t → AreRising last (cond t (key ∷ first ∷ keys) (first ∷ placed_key key keys))
@@ -159,6 +145,33 @@ all_rising : (named keys : List ℕ) → AreMandatory named → AreFresh named k
 all_rising [] keys m fresh rising = rising
 all_rising (key ∷ named) keys m fresh rising =
     all_rising named (placed_key key keys) m.3 (fresh_placed key named keys m.2 fresh.1) (placed_rising 0 key keys m.0 m.1 fresh.0 rising)
+
+mandatory_rise : (named : List ℕ) → AreMandatory named → AreRising 0 (keys_in_order named)
+mandatory_rise named m = all_rising named [] m (all_fresh named) tt
+
+mandatory_order : (named : List ℕ) → AreMandatory named → IsOrderOf (λ key. key) named (keys_in_order named)
+mandatory_order named m = placed_order (λ key. key) named 1 (keys_rise 0 (keys_in_order named) (mandatory_rise named m))
+
+-- keys that a text spells stand as the reading places them
+keys_are : (text keys : List ℕ) → (s : SpellsKeys text keys) → keys ≡ keys_in_order s.named
+keys_are text keys s = only_order (λ key. key) s.named keys (keys_in_order s.named) s.order (mandatory_order s.named s.are_mandatory)
+
+pub list_read : (text keys : List ℕ) → SpellsKeys text keys → read_keys text ≡ Some keys
+list_read text keys s =
+    ap (λ xs. keys_beside (items_of xs) []) s.spelled
+    ∙ ap (λ items. keys_beside items []) (items_joined (map key_name s.named) (names_some s.named s.some) (names_no_comma s.named s.are_mandatory))
+    ∙ keys_read s.named [] s.are_mandatory (all_fresh s.named) ∙ ap Some (sym (keys_are text keys s))
+
+pub list_spells : (text keys : List ℕ) → read_keys text ≡ Some keys → SpellsKeys text keys
+list_spells text keys h =
+    let s = keys_says (items_of text) [] keys h in
+    record {
+      named = s.named;
+      some = λ none. items_some text (s.texts_are ∙ ap (map key_name) none);
+      are_mandatory = s.are_mandatory;
+      spelled = items_whole text ∙ ap (join_with_byte 44) s.texts_are;
+      order = subst (IsOrderOf (λ key. key) s.named) (sym s.placed) (mandatory_order s.named s.are_mandatory);
+    }
 
 placed_length : (key : ℕ) (keys : List ℕ) → length (placed_key key keys) ≡ suc (length keys)
 placed_length key [] = refl
@@ -178,5 +191,5 @@ some_placed (key ∷ named) some = placed_more named (key ∷ [])
 
 pub list_form : (text keys : List ℕ) → SpellsKeys text keys → (1 ≤ length keys) × AreRising 0 keys
 list_form text keys s =
-    subst (λ ks. (1 ≤ length ks) × AreRising 0 ks) (sym s.value)
-    (some_placed s.named s.some, all_rising s.named [] s.are_mandatory (all_fresh s.named) tt)
+    subst (λ ks. (1 ≤ length ks) × AreRising 0 ks) (sym (keys_are text keys s))
+    (some_placed s.named s.some, mandatory_rise s.named s.are_mandatory)

@@ -8,10 +8,10 @@ use Rattle.std.specs.BTreeSet.{insert_key}
 use Rattle.std.proofs.lemmas.Bool.Decides.{nat_tests}
 use Rattle.alt_base.proofs.Numbers.{eq_false}
 use Rattle.svcb_text.specs.KeyNames.{key_named}
-use Rattle.svcb_text.specs.ParamOrder.{placed_key}
+use Rattle.svcb_text.specs.Placing.{placed_key}
 use Rattle.svcb_text.specs.ValueReading.{items_of, has_number, with_key, then_keys, keys_beside, read_keys}
 use Rattle.svcb_text.proofs.CommaItems.{IsNext}
-use Rattle.svcb_text.proofs.KeyLists.{neither}
+use Rattle.std.proofs.lemmas.Bool.{or_parts, or_right}
 
 test_same : (a b : ℕ) → is_eq (nat_cmp a b) ≡ nat_eq b a
 test_same a b = grind (arith, nat_tests)
@@ -26,7 +26,7 @@ not_lower a b h = grind (arith, nat_tests)
 pub set_insert : (key : ℕ) (keys : List ℕ) → has_number keys key ≡ false → insert_key nat_cmp keys key ≡ placed_key key keys
 set_insert key [] fresh = refl
 set_insert key (first ∷ keys) fresh =
-    let apart = neither (nat_eq first key) (has_number keys key) fresh in
+    let apart = or_parts (nat_eq first key) (has_number keys key) fresh in
     go (set_insert key keys apart.1) (nat_lt key first) (nat_eq key first) (not_lower key first apart.0)
   where
     go : insert_key nat_cmp keys key ≡ placed_key key keys → (s t : Bool) → t ≡ false → match_ordering (cond s Less (cond t Equal Greater)) (key ∷ first ∷ keys) (first ∷ keys) (first ∷ insert_key nat_cmp keys key) ≡ cond s (key ∷ first ∷ keys) (first ∷ placed_key key keys)
@@ -58,10 +58,6 @@ none_by false false new rest all h p = cc
 none_by false true new rest all h p = h
 none_by true t new rest all h p = h
 
-or_true : (a b : Bool) → b ≡ true → (a || b) ≡ true
-or_true true b h = refl
-or_true false b h = h
-
 pub key_zero : (text item keys : List ℕ) (count key : ℕ) → IsSoFar text keys count → IsNext text item count → key_named item ≡ Some key → key ≡ 0 → None ≡ read_keys text
 key_zero text item keys count key h next some is =
     none_by (nat_eq key 0) (has_number keys key) (placed_key key keys) (drop (count + 1) (items_of text)) (read_keys text) (this_key text item keys count key h next some) (ap (λ k. nat_eq k 0 || has_number keys key) is)
@@ -78,7 +74,7 @@ pub key_again : (text item keys : List ℕ) (count key : ℕ) (added : Bool) →
     → added ≡ not (list_any (is_at (nat_cmp key)) keys) → added ≡ false → None ≡ read_keys text
 key_again text item keys count key added h next some is there =
     none_by (nat_eq key 0) (has_number keys key) (placed_key key keys) (drop (count + 1) (items_of text)) (read_keys text) (this_key text item keys count key h next some)
-    (or_true (nat_eq key 0) (has_number keys key) (sym (set_has key keys) ∙ not_false added (list_any (is_at (nat_cmp key)) keys) is there))
+    (or_right (nat_eq key 0) (has_number keys key) (sym (set_has key keys) ∙ not_false added (list_any (is_at (nat_cmp key)) keys) is there))
 
 pub key_on : (text item keys new : List ℕ) (count key : ℕ) (added : Bool) → IsSoFar text keys count → IsNext text item count → key_named item ≡ Some key → key ≢ 0
     → added ≡ not (list_any (is_at (nat_cmp key)) keys) → added ≡ true → new ≡ insert_key nat_cmp keys key → IsSoFar text new (count + 1)

@@ -8,7 +8,9 @@ use Rattle.svcb_wire.specs.declared.param.Param.{Param}
 use Rattle.svcb_wire.specs.Octets.{key_of}
 use Rattle.svcb_wire.specs.Usable.{has_key}
 use Rattle.alt_base.proofs.Numbers.{eq_false, true_eq, false_eq, lt_true, lt_false, true_lt, false_lt}
-use Rattle.svcb_text.specs.ParamOrder.{AreKeyed, placed}
+use Rattle.svcb_text.specs.ParamOrder.{AreKeyed}
+use Rattle.svcb_text.specs.Placing.{placed}
+use Rattle.std.proofs.lemmas.Bool.{or_parts}
 
 abbrev Entries : Type 0
 Entries = List (ℕ × Param)
@@ -39,14 +41,10 @@ pub record IsPlaced (param : Param) (entries longer : Entries) : Type 0 where
   pub keyed : AreKeyed longer
   pub values : values_of longer ≡ placed param (values_of entries)
 
-or_first : (a b : Bool) → (a || b) ≡ false → (a ≡ false) × (b ≡ false)
-or_first true b h = cc
-or_first false b h = (refl, h)
-
 pub placed_found : (key : ℕ) (param : Param) (entries : Entries) → key ≡ key_of param → AreKeyed entries → has_key (key_of param) (values_of entries) ≡ false → IsPlaced param entries (insert_entry nat_cmp entries key param)
 placed_found key param [] same h new = record { keyed = (same, tt); values = refl }
 placed_found key param (e ∷ es) same h new =
-    let parts = or_first (nat_eq (key_of e.1) (key_of param)) (has_key (key_of param) (values_of es)) new in
+    let parts = or_parts (nat_eq (key_of e.1) (key_of param)) (has_key (key_of param) (values_of es)) new in
     let apart : key_of e.1 ≢ key_of param = false_eq (key_of e.1) (key_of param) parts.0 in
     let rec = placed_found key param es same h.1 parts.1 in
     go (nat_lt key e.0) refl apart rec

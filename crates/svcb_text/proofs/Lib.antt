@@ -1,5 +1,5 @@
-pub mod Truth
 pub mod ClassLaws
+pub mod Order
 pub mod QuotingLaws
 pub mod QuotingLoop
 pub mod WrittenIds

@@ -6,7 +6,18 @@ use Rattle.svcb_wire.specs.Octets.{key_of, value_of, param_octets, params_octets
 use Rattle.svcb_wire.specs.Forms.{HasForm, AreParams}
 use Rattle.svcb_wire.specs.Usable.{has_key}
 use Rattle.alt_base.proofs.Numbers.{eq_false, false_eq, true_lt, false_lt}
-use Rattle.svcb_text.specs.ParamOrder.{IsNew, AreDistinct, placed, all_placed, keys_of}
+use Rattle.svcb_text.specs.ParamOrder.{IsNew, AreDistinct, IsOrderOf, keys_of}
+use Rattle.svcb_text.specs.Placing.{placed}
+use Rattle.svcb_text.proofs.Order.{RiseFrom, all_placed_by, rise_placed, only_order, placed_order}
+use Rattle.std.proofs.lemmas.Bool.{or_parts, or_from}
+use Rattle.alt_base.proofs.Booleans.{or_swap}
+
+-- parameters placed in turn among others
+abbrev pub all_placed : List Param → List Param → List Param
+all_placed before params = all_placed_by key_of before params
+
+abbrev pub in_order : List Param → List Param
+in_order params = all_placed [] params
 
 -- each parameter's key is new, when it is placed among those before it
 abbrev pub AreFresh : List Param → List Param → Type 0
@@ -16,20 +27,6 @@ AreFresh before (param ∷ params) = (has_key (key_of param) before ≡ false) �
 abbrev pub AreNew : List Param → List Param → Type 0
 AreNew before [] = Unit {0}
 AreNew before (param ∷ params) = (has_key (key_of param) before ≡ false) × AreNew before params
-
-or_swap : (a b c : Bool) → (a || (b || c)) ≡ (b || (a || c))
-or_swap true true c = refl
-or_swap true false c = refl
-or_swap false true c = refl
-or_swap false false c = refl
-
-or_false : (a b : Bool) → (a || b) ≡ false → (a ≡ false) × (b ≡ false)
-or_false true b h = cc
-or_false false b h = (refl, h)
-
-false_or : (a b : Bool) → a ≡ false → b ≡ false → (a || b) ≡ false
-false_or true b p q = p
-false_or false b p q = q
 
 has_placed : (key : ℕ) (param : Param) (params : List Param) → has_key key (placed param params) ≡ (nat_eq (key_of param) key || has_key key params)
 has_placed key param [] = refl
@@ -41,10 +38,10 @@ has_placed key param (other ∷ params) = go (nat_lt (key_of param) (key_of othe
     go false rec = rw rec (or_swap (nat_eq (key_of other) key) (nat_eq (key_of param) key) (has_key key params))
 
 pub none_placed : (key : ℕ) (param : Param) (params : List Param) → has_key key (placed param params) ≡ false → (key_of param ≢ key) × (has_key key params ≡ false)
-none_placed key param params h = let e = or_false _ _ (sym (has_placed key param params) ∙ h) in (false_eq _ _ e.0, e.1)
+none_placed key param params h = let e = or_parts _ _ (sym (has_placed key param params) ∙ h) in (false_eq _ _ e.0, e.1)
 
 pub placed_none : (key : ℕ) (param : Param) (params : List Param) → key_of param ≢ key → has_key key params ≡ false → has_key key (placed param params) ≡ false
-placed_none key param params apart h = has_placed key param params ∙ false_or _ _ (eq_false _ _ apart) h
+placed_none key param params apart h = has_placed key param params ∙ or_from _ _ (eq_false _ _ apart) h
 
 new_placed : (param : Param) (before params : List Param) → IsNew (key_of param) (keys_of params) → AreNew before params → AreNew (placed param before) params
 new_placed param before [] n are = tt
@@ -95,6 +92,17 @@ none_behind key before (p ∷ ps) n h = none_behind key (placed p before) ps n.1
 pub none_among : (key : ℕ) (params : List Param) → IsNew key (keys_of params) → has_key key (all_placed [] params) ≡ false
 none_among key params n = none_behind key [] params n refl
 
+-- placed in turn, parameters of distinct keys stand in rising keys
+all_rise : (before params : List Param) → AreFresh before params → RiseFrom 0 (keys_of before) → RiseFrom 0 (keys_of (all_placed before params))
+all_rise before [] fresh r = r
+all_rise before (p ∷ ps) fresh r = all_rise (placed p before) ps fresh.1 (rise_placed key_of 0 p before (omega arith) fresh.0 r)
+
+pub fresh_order : (params : List Param) → AreFresh [] params → IsOrderOf key_of params (in_order params)
+fresh_order params fresh = placed_order key_of params 0 (all_rise [] params fresh tt)
+
+pub order_is : (params ordered : List Param) → AreDistinct (keys_of params) → IsOrderOf key_of params ordered → ordered ≡ in_order params
+order_is params ordered d o = only_order key_of params ordered (in_order params) o (fresh_order params (distinct_fresh params d))
+
 -- parameters in rising keys, each with a value of its key's form
 abbrev pub AreFormed : ℕ → List Param → Type 0
 AreFormed least [] = Unit {0}
@@ -103,7 +111,7 @@ AreFormed least (param ∷ params) = (least ≤ key_of param) × HasForm param �
 formed_placed : (least : ℕ) (param : Param) (params : List Param) → least ≤ key_of param → HasForm param → has_key (key_of param) params ≡ false → AreFormed least params → AreFormed least (placed param params)
 formed_placed least param [] above form none are = (above, form, tt)
 formed_placed least param (other ∷ params) above form none are =
-    let e = or_false (nat_eq (key_of other) (key_of param)) (has_key (key_of param) params) none in
+    let e = or_parts (nat_eq (key_of other) (key_of param)) (has_key (key_of param) params) none in
     go (nat_lt (key_of param) (key_of other)) refl (false_eq _ _ e.0) (λ h. formed_placed (suc (key_of other)) param params h form e.1 are.2)
   where
     go : (t : Bool) → nat_lt (key_of param) (key_of other) ≡ t → key_of other ≢ key_of param → (suc (key_of other) ≤ key_of param → AreFormed (suc (key_of other)) (placed param params))

@@ -10,14 +10,15 @@ use Rattle.svcb_wire.specs.declared.param.Param.{Param}
 use Rattle.svcb_wire.specs.Usable.{has_key}
 use Rattle.dns_names.proofs.Bytes.{bytes_back}
 use Rattle.svcb_text.specs.declared.refusal.RecordTextRefusal.{RecordTextRefusal}
-use Rattle.svcb_text.specs.ParamOrder.{placed, all_placed}
+use Rattle.svcb_text.specs.Placing.{placed}
 use Rattle.svcb_text.specs.StringGrammar.{EndsItem}
 use Rattle.svcb_text.specs.TextGrammar.{given_key, given_head, given_string, given_value, AreBlanks, Spaced, spaced_texts, SpellEach}
 use Rattle.svcb_text.specs.TextReading.{ParamAnswer, ParamsAnswer, first_param, by_param, params_from, params_behind}
 use Rattle.svcb_text.proofs.ValueLaws.{value_of_key}
-use Rattle.svcb_text.proofs.ParamKeys.{AreFresh}
+use Rattle.svcb_text.proofs.ParamKeys.{all_placed, AreFresh}
 use Rattle.svcb_text.proofs.Items.{blanks_between}
 use Rattle.svcb_text.proofs.FirstParam.{IsFirstParam, ParamStops, ParamSays, first_says}
+use Rattle.alt_base.proofs.Lists.{cons_not_nil}
 
 -- the parameters that were read to the end, beside some
 pub record ParamsAre (before : List Param) (x : List ℕ) (found : List Param) : Type 0 where
@@ -53,9 +54,6 @@ record IsBehind (x blanks rest : List ℕ) : Type 0 where
   pub text : x ≡ blanks ++ rest
   pub all : AllIn is_blank blanks
   pub longest : BeginsIn is_blank rest → ⊥
-
-cons_some : (b : ℕ) (bs : List ℕ) → b ∷ bs ≢ []
-cons_some b bs e = cc
 
 no_params : (before : List Param) (place : ℕ) (x blanks : List ℕ) → IsBehind x blanks [] → ParamsSays before place x (Ok before)
 no_params before place x blanks h = record {
@@ -157,7 +155,7 @@ step_says (Ok found) k before place x blanks y bytes h some is_some within says 
 from_says : (k : ℕ) (before : List Param) (place : ℕ) (x blanks y : List ℕ) → AreBytes y → EndsItem x → IsBehind x blanks y → length x < suc k → Later k → ParamsSays before place x (params_from (params_behind k) before (place + length blanks) y)
 from_says k before place x blanks [] bytes ends h within later = no_params before place x blanks h
 from_says k before place x blanks (b ∷ bs) bytes ends h within later =
-    step_says (first_param before (place + length blanks) (b ∷ bs)) k before place x blanks (b ∷ bs) bytes h (record { some = blanks_between x blanks (b ∷ bs) ends h.text h.longest (cons_some b bs); all = h.all }) (cons_some b bs) within
+    step_says (first_param before (place + length blanks) (b ∷ bs)) k before place x blanks (b ∷ bs) bytes h (record { some = blanks_between x blanks (b ∷ bs) ends h.text h.longest (cons_not_nil b bs); all = h.all }) (cons_not_nil b bs) within
     (first_says before (place + length blanks) (b ∷ bs) bytes) later
 
 pub params_say : (k : ℕ) → Later k

@@ -1,5 +1,5 @@
 -- The parameters of a text: what the grammar says is what is read.
-use Rattle.std.proofs.Common.{◌≡◌, ◌≢◌, ℕ, zero, suc, ◌+◌, ◌<◌, ◌≤◌, Bool, true, false, List, [], ◌∷◌, ◌++◌, length, drop, Ok, Err, refl, ap, sym, ◌∙◌, subst, arith, inr}
+use Rattle.std.proofs.Common.{◌≡◌, ◌≢◌, ℕ, zero, suc, ◌+◌, ◌<◌, ◌≤◌, false, List, [], ◌∷◌, ◌++◌, length, drop, Ok, Err, refl, ap, sym, ◌∙◌, subst, arith, inr}
 use Rattle.std.proofs.lemmas.List.{append_assoc, append-nil, length-append}
 use Rattle.alt_base.specs.declared.refusal.At.{At}
 use Rattle.field_text.specs.BlanksGrammar.{is_blank}
@@ -11,17 +11,18 @@ use Rattle.svcb_wire.specs.Octets.{key_of}
 use Rattle.svcb_wire.specs.Usable.{has_key}
 use Rattle.svcb_text.specs.declared.refusal.RecordTextRefusal.{RecordTextRefusal}
 use Rattle.svcb_text.specs.KeyNames.{is_key_byte, key_name}
-use Rattle.svcb_text.specs.ParamOrder.{placed, all_placed}
+use Rattle.svcb_text.specs.Placing.{placed}
 use Rattle.svcb_text.specs.StringGrammar.{EndsItem}
 use Rattle.svcb_text.specs.TextGrammar.{GivenParam, Alone, Valued, given_key, given_head, given_string, given_value, IsGiven, Spaced, spaced_texts, SpellEach}
 use Rattle.svcb_text.specs.TextReading.{ParamsAnswer, first_param, by_param, params_from, params_behind}
 use Rattle.svcb_text.proofs.KeyLaws.{name_bytes, name_some}
 use Rattle.svcb_text.proofs.ValueLaws.{value_of_key}
-use Rattle.svcb_text.proofs.ParamKeys.{AreFresh}
+use Rattle.svcb_text.proofs.ParamKeys.{all_placed, AreFresh}
 use Rattle.svcb_text.proofs.Items.{ends_with_blanks, no_key_byte}
 use Rattle.svcb_text.proofs.FirstParam.{IsFirstParam}
 use Rattle.svcb_text.proofs.FirstRead.{param_reads}
 use Rattle.svcb_text.proofs.ParamLists.{rest_of, param_length}
+use Rattle.alt_base.proofs.Booleans.{contradicts}
 
 -- blanks and a byte that is none
 pub record GoesOnBehind (x blanks y : List ℕ) : Type 0 where
@@ -60,12 +61,9 @@ record Begins (x : List ℕ) : Type 0 where
   pub some : x ≢ []
   pub no_blank : BeginsIn is_blank x → ⊥
 
-clash : (t : Bool) → t ≡ true → t ≡ false → ⊥
-clash t a b = cc
-
 name_begins : (name more : List ℕ) → name ≢ [] → AllIn is_key_byte name → Begins (name ++ more)
 name_begins [] more some all = absurd (some refl)
-name_begins (b ∷ bs) more some all = record { some = λ e. no_cons e; no_blank = λ h. clash (is_key_byte b) all.0 (no_key_byte b (inr h)) }
+name_begins (b ∷ bs) more some all = record { some = λ e. no_cons e; no_blank = λ h. contradicts (is_key_byte b) all.0 (no_key_byte b (inr h)) }
   where
     no_cons : b ∷ (bs ++ more) ≡ [] → ⊥
     no_cons e = cc

@@ -1,21 +1,16 @@
 -- What is written for bytes between quotes is a string of them.
 use Rattle.std.proofs.Common.{◌≡◌, ◌⊎◌, ℕ, ◌+◌, ◌/◌, ◌%◌, ◌<◌, Bool, true, false, cond, ◌&&◌, ◌||◌, nat_eq, nat_le, List, [], ◌∷◌, map, refl, sym, subst, arith, inl, inr}
-use Rattle.std.proofs.lemmas.Bool.Decides.{nat_tests}
 use Rattle.std.specs.Char.{is_ascii_digit}
 use Rattle.dns_names.specs.Names.{AreBytes}
-use Rattle.dns_names.specs.TextParts.{Part, Raw, Quoted, Decimal, decimal_value, part_byte}
+use Rattle.dns_names.specs.TextParts.{Part, Raw, Quoted, Decimal, part_byte}
 use Rattle.alt_base.proofs.Numbers.{true_eq, false_eq, true_le}
 use Rattle.svcb_text.specs.declared.token.Style.TheVariants.{InQuotes}
 use Rattle.svcb_text.specs.StringGrammar.{IsPart, AreParts, is_escapable, string_text}
 use Rattle.svcb_text.specs.Written.{written_part, in_quotes}
-use Rattle.svcb_text.proofs.Truth.{or_true, or_false, and_true}
 use Rattle.svcb_text.proofs.ClassLaws.{shown_raw}
-
-digit_shown : (n : ℕ) → n < 10 → is_ascii_digit (48 + n) ≡ true
-digit_shown n h = grind (arith, nat_tests)
-
-three_digits : (b : ℕ) → b < 256 → decimal_value (48 + b / 100) (48 + b / 10 % 10) (48 + b % 10) ≡ b
-three_digits b h = omega arith
+use Rattle.std.proofs.lemmas.Bool.{or_cases, or_parts, and_parts}
+use Rattle.alt_base.proofs.Digits.{digit_shown}
+use Rattle.dns_names.proofs.TextNames.{three_digits}
 
 decimal_part : (b : ℕ) → b < 256 → IsPart InQuotes (Decimal (48 + b / 100) (48 + b / 10 % 10) (48 + b % 10))
 decimal_part b h = (
@@ -39,13 +34,13 @@ quoted_mark b (inr e) = subst CanBeQuoted (sym (true_eq b 92 e)) (refl, refl)
 
 raw_part : (b : ℕ) → (nat_eq b 34 || nat_eq b 92) ≡ false → (nat_le 32 b && nat_le b 126) ≡ true → IsPart InQuotes (Raw b)
 raw_part b mark shown =
-    let other = or_false (nat_eq b 34) (nat_eq b 92) mark in
-    let within = and_true (nat_le 32 b) (nat_le b 126) shown in
+    let other = or_parts (nat_eq b 34) (nat_eq b 92) mark in
+    let within = and_parts (nat_le 32 b) (nat_le b 126) shown in
     shown_raw b (true_le _ _ within.0) (true_le _ _ within.1) (false_eq _ _ other.0) (false_eq _ _ other.1)
 
 written_by : (b : ℕ) (mark shown : Bool) → b < 256 → (nat_eq b 34 || nat_eq b 92) ≡ mark → (nat_le 32 b && nat_le b 126) ≡ shown
     → IsWritten b (cond mark (Quoted b) (cond shown (Raw b) (Decimal (48 + b / 100) (48 + b / 10 % 10) (48 + b % 10))))
-written_by b true shown h p q = record { valid = quoted_mark b (or_true (nat_eq b 34) (nat_eq b 92) p); means = refl }
+written_by b true shown h p q = record { valid = quoted_mark b (or_cases (nat_eq b 34) (nat_eq b 92) p); means = refl }
 written_by b false true h p q = record { valid = raw_part b p q; means = refl }
 written_by b false false h p q = record { valid = decimal_part b h; means = three_digits b h }
 

@@ -1,6 +1,6 @@
 -- The steps of the code as steps of the reading.
 use Rattle.std.proofs.Common.{◌≡◌, ℕ, zero, suc, ◌+◌, ◌-◌, ◌<◌, ◌≤◌, Bool, true, false, cond, List, [], ◌∷◌, length, take, drop, Some, None, Result, Ok, Err, IfOk, refl, ap, sym, ◌∙◌, subst, arith}
-use Rattle.std.proofs.lemmas.List.{take_at, drop_at, take_rest, length-drop}
+use Rattle.std.proofs.lemmas.List.{drop_at, take_rest, length-drop}
 use Rattle.std.specs.BTreeMap.{is_at}
 use Rattle.std.specs.Map.{values_of, lookup}
 use Rattle.std.specs.Option.{is_some}
@@ -15,7 +15,7 @@ use Rattle.field_text.specs.BlanksGrammar.{is_blank}
 use Rattle.field_text.specs.BlanksReading.{read_blanks, after_blanks}
 use Rattle.field_text.specs.DeltaReading.{read_delta_seconds}
 use Rattle.field_text.specs.Runs.{run_of, after_run}
-use Rattle.field_text.proofs.RunLemmas.{longest_run}
+use Rattle.field_text.proofs.RunLemmas.{longest_run, taken_by}
 use Rattle.svcb_wire.specs.declared.param.Param.{Param}
 use Rattle.svcb_wire.specs.declared.svcb.Svcb.{Svcb}
 use Rattle.svcb_wire.specs.Octets.{key_of}
@@ -24,15 +24,13 @@ use Rattle.svcb_text.specs.declared.refusal.RecordTextRefusal.{RecordTextRefusal
 use Rattle.svcb_text.specs.declared.refusal.RecordTextRefusal.TheVariants.{BadPriority, BadTarget, BadKey, RepeatedKey}
 use Rattle.alt_base.specs.Answers.{refused, Answers}
 use Rattle.svcb_text.specs.KeyNames.{is_key_byte, key_named}
-use Rattle.svcb_text.specs.ParamOrder.{AreKeyed, placed}
+use Rattle.svcb_text.specs.ParamOrder.{AreKeyed}
+use Rattle.svcb_text.specs.Placing.{placed}
 use Rattle.svcb_text.specs.TextReading.{ParamsAnswer, ends_key, behind_key, by_key, first_param, by_param, params_from, params_behind, read_params, with_params, item_of, after_item, by_target, behind_priority, priority_of, by_priority, from_priority}
 use Rattle.svcb_text.specs.TextGrammar.{given_key, given_value}
 use Rattle.svcb_text.proofs.ValueLaws.{value_of_key}
 use Rattle.svcb_text.proofs.FirstParam.{IsFirstParam, ParamSays, first_says}
 use Rattle.svcb_text.proofs.KeyedMap.{has_found}
-
-front_is : (class : ℕ → Bool) (x : List ℕ) (count : ℕ) → count ≡ length (run_of class x) → take count x ≡ run_of class x
-front_is class x count e = ap (take count) (longest_run class x).text ∙ take_at (run_of class x) (after_run class x) count (sym e)
 
 back_is : (class : ℕ → Bool) (x : List ℕ) (count : ℕ) → count ≡ length (run_of class x) → drop count x ≡ after_run class x
 back_is class x count e = ap (drop count) (longest_run class x).text ∙ drop_at (run_of class x) (after_run class x) count (sym e)
@@ -41,7 +39,7 @@ back_is class x count e = ap (drop count) (longest_run class x).text ∙ drop_at
 param_is : (params : List Param) (place count : ℕ) (x : List ℕ) → count ≡ length (run_of is_key_byte x) → first_param params place x ≡ by_key (key_named (take count x)) params place count (take (length x - count) (drop count x))
 param_is params place count x e =
     ap (λ n. by_key (key_named (run_of is_key_byte x)) params place n (after_run is_key_byte x)) (sym e)
-    ∙ ap (λ xs. by_key (key_named xs) params place count (after_run is_key_byte x)) (sym (front_is is_key_byte x count e))
+    ∙ ap (λ xs. by_key (key_named xs) params place count (after_run is_key_byte x)) (sym (taken_by is_key_byte x count e))
     ∙ ap (λ xs. by_key (key_named (take count x)) params place count xs) (sym (back_is is_key_byte x count e) ∙ sym (take_rest x count))
 
 pub no_key : (params : List Param) (place count : ℕ) (x : List ℕ) → count ≡ length (run_of is_key_byte x) → None ≡ key_named (take count x) → first_param params place x ≡ refused place BadKey
@@ -124,13 +122,13 @@ passed params longer param at blanks size x y rest whole c f some above within s
 pub target_read : (size priority place count : ℕ) (x : List ℕ) (name : List (List ℕ)) → count ≡ length (item_of x) → read_text (take count x) ≡ Ok name
     → behind_priority size priority place x ≡ with_params size priority name (read_params (place + count) (take (length x - count) (drop count x)))
 target_read size priority place count x name e is =
-    ap (λ xs. by_target (read_text xs) size priority place x) (sym (front_is _ x count e))
+    ap (λ xs. by_target (read_text xs) size priority place x) (sym (taken_by _ x count e))
     ∙ ap (λ r. by_target r size priority place x) is
     ∙ ap (λ n. with_params size priority name (read_params (place + n) (after_item x))) (sym e)
     ∙ ap (λ xs. with_params size priority name (read_params (place + count) xs)) (sym (back_is _ x count e) ∙ sym (take_rest x count))
 
 pub target_stops : (size priority place count : ℕ) (x : List ℕ) (at : At NameRefusal) → count ≡ length (item_of x) → read_text (take count x) ≡ Err at → behind_priority size priority place x ≡ refused (place + at.place) BadTarget
-target_stops size priority place count x at e is = ap (λ xs. by_target (read_text xs) size priority place x) (sym (front_is _ x count e)) ∙ ap (λ r. by_target r size priority place x) is
+target_stops size priority place count x at e is = ap (λ xs. by_target (read_text xs) size priority place x) (sym (taken_by _ x count e)) ∙ ap (λ r. by_target r size priority place x) is
 
 pub params_stop : (size priority : ℕ) (name : List (List ℕ)) (a : ParamsAnswer) (e : Refused RecordTextRefusal) → (let r : Result (List Param) (Refused RecordTextRefusal) = Err e in Answers r a)
     → (let r : Result Svcb (Refused RecordTextRefusal) = Err e in Answers r (with_params size priority name a))
@@ -138,13 +136,13 @@ params_stop size priority name a NoMemory is = tt
 params_stop size priority name a (RefusedThere place reason) is = ap (with_params size priority name) is
 
 pub no_priority : (size place count : ℕ) (x : List ℕ) → count ≡ length (item_of x) → None ≡ priority_of (read_delta_seconds (take count x)) → from_priority size place x ≡ refused place BadPriority
-no_priority size place count x e is = ap (λ xs. by_priority (priority_of (read_delta_seconds xs)) size place x) (sym (front_is _ x count e)) ∙ ap (λ o. by_priority o size place x) (sym is)
+no_priority size place count x e is = ap (λ xs. by_priority (priority_of (read_delta_seconds xs)) size place x) (sym (taken_by _ x count e)) ∙ ap (λ o. by_priority o size place x) (sym is)
 
 pub priority_read : (size place priority count blanks : ℕ) (x y rest : List ℕ) → count ≡ length (item_of x) → Some priority ≡ priority_of (read_delta_seconds (take count x)) → y ≡ drop count x → blanks ≡ length (run_of is_blank y) → rest ≡ after_blanks y
     → from_priority size place x ≡ behind_priority size priority (place + count + blanks) rest
 priority_read size place priority count blanks x y rest e is y_is blanks_is rest_is =
     let after : after_item x ≡ y = sym (back_is _ x count e) ∙ sym y_is in
-    ap (λ xs. by_priority (priority_of (read_delta_seconds xs)) size place x) (sym (front_is _ x count e))
+    ap (λ xs. by_priority (priority_of (read_delta_seconds xs)) size place x) (sym (taken_by _ x count e))
     ∙ ap (λ o. by_priority o size place x) (sym is)
     ∙ ap (λ xs. behind_priority size priority (read_blanks (place + length (item_of x)) xs) (after_blanks xs)) after
     ∙ ap (λ n. behind_priority size priority (place + n + length (run_of is_blank y)) (after_blanks y)) (sym e)

@@ -11,6 +11,7 @@ use Rattle.field_text.specs.BlanksReading.{after_blanks}
 use Rattle.field_text.specs.DeltaReading.{read_delta_seconds}
 use Rattle.field_text.specs.Runs.{AllIn, BeginsIn, run_of}
 use Rattle.field_text.proofs.RunLemmas.{longest_run}
+use Rattle.svcb_wire.specs.Octets.{key_of}
 use Rattle.svcb_wire.specs.declared.svcb.Svcb.{Svcb}
 use Rattle.svcb_wire.specs.Records.{record_octets}
 use Rattle.svcb_wire.specs.Usable.{has_key, is_consistent}
@@ -20,15 +21,17 @@ use Rattle.svcb_text.specs.declared.refusal.RecordTextRefusal.{RecordTextRefusal
 use Rattle.svcb_text.specs.declared.refusal.RecordTextRefusal.TheVariants.{BadPriority, BadTarget, BadKey, RepeatedKey, BadString, BadValue, Inconsistent, TooLong}
 use Rattle.alt_base.specs.Answers.{refused, Answers, IfRefused}
 use Rattle.svcb_text.specs.KeyNames.{key_name}
-use Rattle.svcb_text.specs.ParamOrder.{all_placed}
+use Rattle.svcb_text.specs.ParamOrder.{IsOrderOf}
 use Rattle.svcb_text.specs.StringGrammar.{EndsItem}
 use Rattle.svcb_text.specs.TextGrammar.{given_head, given_string, spaced_texts, SpellsPriority, Front, front_text, HasForm, IsAllowed, SpellsRecordText}
 use Rattle.svcb_text.specs.TextReading.{ParamsAnswer, RecordAnswer, read_params, finish, with_params, item_of, after_item, by_target, priority_of, by_priority, from_priority, read_record_text}
 use Rattle.svcb_text.specs.TextRefusals.{GoesOn, RecordTextRefusedAt}
-use Rattle.svcb_text.proofs.ParamKeys.{fresh_distinct, new_among, none_among}
+use Rattle.svcb_text.proofs.ParamKeys.{all_placed, fresh_distinct, fresh_order, new_among, none_among}
 use Rattle.svcb_text.proofs.Items.{first_item}
 use Rattle.svcb_text.proofs.Front.{Fronted, priority_says, priority_reads as number_read, name_some}
 use Rattle.svcb_text.proofs.ParamLists.{ParamsStop, ParamsSays, params_say}
+use Rattle.alt_base.proofs.Variants.{some_none}
+use Rattle.alt_base.proofs.Booleans.{contradicts}
 
 abbrev pub Says : List ℕ → RecordAnswer → Type 0
 Says x (Ok value) = SpellsRecordText x value
@@ -52,9 +55,6 @@ goes_on x priority name place rest q reason more at h s e is = record {
   behind = omega (arith, is, h.behind);
 }
 
-clash : (t : Bool) → t ≡ true → t ≡ false → ⊥
-clash t a b = cc
-
 stop_says : (reason : RecordTextRefusal) (x : List ℕ) (priority : ℕ) (name : List (List ℕ)) (place : ℕ) (rest : List ℕ) (q : ℕ) → Fronted x priority name place rest → ParamsStop [] place rest q reason → RecordTextRefusedAt x q reason
 stop_says BadPriority x priority name place rest q h s = absurd s.stops
 stop_says BadTarget x priority name place rest q h s = absurd s.stops
@@ -68,7 +68,7 @@ stop_says RepeatedKey x priority name place rest q h s = (
     goes = goes_on x priority name place rest q RepeatedKey (key_name s.stops.key ++ s.stops.more) q h s s.stops.text s.stops.at;
     fits = s.stops.fits;
     ends = s.stops.ends;
-    repeated = λ new. clash (has_key s.stops.key (all_placed [] s.params)) s.stops.repeated (none_among s.stops.key s.params new);
+    repeated = λ new. contradicts (has_key s.stops.key (all_placed [] s.params)) s.stops.repeated (none_among s.stops.key s.params new);
   },
 )
 stop_says BadString x priority name place rest q h s = (
@@ -111,9 +111,9 @@ allowed_by true b value p q h = inl (true_eq value.priority 0 p)
 allowed_by false b value p q h = inr (q ∙ h)
 
 refused_by_both : (a b : Bool) (value : Svcb) → nat_eq value.priority 0 ≡ a → is_consistent value ≡ b → (a || b) ≡ false → IsAllowed value → ⊥
-refused_by_both true b value p q h allowed = clash true refl h
-refused_by_both false b value p q h (inl zero_is) = clash (nat_eq value.priority 0) (ap (λ n. nat_eq n 0) zero_is) p
-refused_by_both false b value p q h (inr consistent) = clash (is_consistent value) consistent (q ∙ h)
+refused_by_both true b value p q h allowed = contradicts true refl h
+refused_by_both false b value p q h (inl zero_is) = contradicts (nat_eq value.priority 0) (ap (λ n. nat_eq n 0) zero_is) p
+refused_by_both false b value p q h (inr consistent) = contradicts (is_consistent value) consistent (q ∙ h)
 
 finish_says : (x : List ℕ) (value : Svcb) → HasForm x value → Says x (finish (length x) value)
 finish_says x value form = by (nat_eq value.priority 0 || is_consistent value) (nat_lt 65535 (length (record_octets value))) refl refl
@@ -136,7 +136,7 @@ params_says (Ok params) x priority name place rest h s =
       each = s.each;
       blanks = s.blanks;
       distinct = fresh_distinct s.params s.fresh;
-      order = s.are;
+      order = subst (IsOrderOf key_of s.params) (sym s.are) (fresh_order s.params s.fresh);
       short = h.short;
     })
 params_says (Err at) x priority name place rest h s = stop_says at.reason x priority name place rest at.place h s
@@ -208,9 +208,6 @@ target_says (Err at) x priority place y bytes h is = (
   },
 )
 
-none_some : (o : Option ℕ) (n : ℕ) → o ≡ None → o ≡ Some n → ⊥
-none_some o n a b = cc
-
 number_says : (o : Option ℕ) (x before y : List ℕ) (place : ℕ) → AreBytes x → length x ≤ 65535 → x ≡ before ++ y → AllIn is_blank before → (BeginsIn is_blank y → ⊥) → place ≡ length before → priority_of (read_delta_seconds (item_of y)) ≡ o
     → Says x (by_priority o (length x) place y)
 number_says None x before y place bytes short text blanks stops behind is = (
@@ -224,7 +221,7 @@ number_says None x before y place bytes short text blanks stops behind is = (
     blanks = blanks;
     no_blank = stops;
     is_item = first_item y;
-    bad = λ priority s. none_some (priority_of (read_delta_seconds (item_of y))) priority is (number_read (item_of y) priority s);
+    bad = λ priority s. some_none priority (priority_of (read_delta_seconds (item_of y))) (number_read (item_of y) priority s) is;
     place = behind;
   },
 )

@@ -16,17 +16,18 @@ use Rattle.svcb_text.specs.declared.refusal.RecordTextRefusal.{RecordTextRefusal
 use Rattle.svcb_text.specs.declared.refusal.RecordTextRefusal.TheVariants.{BadPriority, BadTarget, BadKey, RepeatedKey, BadString, BadValue, Inconsistent, TooLong}
 use Rattle.alt_base.specs.Answers.{refused}
 use Rattle.svcb_text.specs.KeyNames.{is_key_byte, key_name}
-use Rattle.svcb_text.specs.ParamOrder.{IsNew, all_placed, in_order, keys_of}
+use Rattle.svcb_text.specs.ParamOrder.{IsNew, keys_of}
 use Rattle.svcb_text.specs.TextGrammar.{front_text, spaced_texts, HasForm, IsAllowed, SpellsRecordText}
 use Rattle.svcb_text.specs.TextReading.{RecordAnswer, first_param, params_behind, finish, with_params, item_of, by_target, priority_of, by_priority, read_record_text}
 use Rattle.svcb_text.specs.TextRefusals.{GoesOn, RecordTextRefusedAt, IsBadPriority, IsBadTarget, OneRecordText}
-use Rattle.svcb_text.proofs.ParamKeys.{distinct_fresh, new_among, none_among}
+use Rattle.svcb_text.proofs.ParamKeys.{all_placed, in_order, order_is, distinct_fresh, new_among, none_among}
 use Rattle.svcb_text.proofs.Items.{item_is, ends_with_blanks, blanks_end}
 use Rattle.svcb_text.proofs.Front.{priority_says, sized_reads, priority_passed, fronted_reads}
 use Rattle.svcb_text.proofs.FirstParam.{ParamStops}
 use Rattle.svcb_text.proofs.FirstRead.{stop_reads}
 use Rattle.svcb_text.proofs.ParamPasses.{passes, ends_before, end_on, stop_on}
 use Rattle.svcb_text.proofs.RecordSays.{Says, record_says}
+use Rattle.alt_base.proofs.Variants.{same_ok}
 
 -- the parameters of a text of a record's form
 end_reads : (left : ℕ) (before : List Param) (place : ℕ) (x : List ℕ) → length x < left → ((k : ℕ) → params_behind (suc k) before place x ≡ Ok before) → params_behind left before place x ≡ Ok before
@@ -46,7 +47,7 @@ form_reads x value s =
     let last = end_reads p.left (in_order s.params) (place + length (spaced_texts s.spaced)) s.behind p.enough (λ k. end_on k (in_order s.params) (place + length (spaced_texts s.spaced)) s.behind s.blanks) in
     fronted_reads x value.priority value.target place rest (record { front = s.front; text = s.text; begins = s.begins; ends = ends_before s.spaced s.params s.behind s.each ends; behind = refl; short = s.short })
     ∙ ap (with_params (length x) value.priority value.target) (p.reads ∙ last)
-    ∙ ap (λ ps. finish (length x) (record { priority = value.priority; target = value.target; params = ps })) (sym s.order)
+    ∙ ap (λ ps. finish (length x) (record { priority = value.priority; target = value.target; params = ps })) (sym (order_is s.params value.params s.distinct s.order))
 
 may_be : (value : Svcb) → IsAllowed value → (nat_eq value.priority 0 || is_consistent value) ≡ true
 may_be value (inl e) = let z : nat_eq value.priority 0 ≡ true = eq_true value.priority 0 e in rw z refl
@@ -152,9 +153,6 @@ record_refused x q TooLong bytes (inr s) = form_reads x s.value s.form ∙ finis
 either_says : (x : List ℕ) (r : RecordAnswer) → Says x r → ((value : Svcb) × SpellsRecordText x value) ⊎ ((q : ℕ) × (reason : RecordTextRefusal) × RecordTextRefusedAt x q reason)
 either_says x (Ok value) s = inl (value, s)
 either_says x (Err at) s = inr (at.place, at.reason, s)
-
-same_ok : (value value' : Svcb) → (let a : RecordAnswer = Ok value in a) ≡ Ok value' → value ≡ value'
-same_ok value value' e = cc
 
 same_refused : (q q' : ℕ) (reason reason' : RecordTextRefusal) → (let a : RecordAnswer = refused q reason in a) ≡ refused q' reason' → (q ≡ q') × (reason ≡ reason')
 same_refused q q' reason reason' e =

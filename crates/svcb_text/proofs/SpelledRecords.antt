@@ -12,12 +12,11 @@ use Rattle.svcb_wire.specs.Records.{IsRecord}
 use Rattle.dns_names.proofs.Bytes.{bytes_back}
 use Rattle.svcb_text.specs.declared.refusal.RecordTextRefusal.{RecordTextRefusal}
 use Rattle.alt_base.specs.Answers.{Answers}
-use Rattle.svcb_text.specs.ParamOrder.{in_order}
 use Rattle.svcb_text.specs.StringGrammar.{EndsItem}
 use Rattle.svcb_text.specs.TextGrammar.{given_key, given_head, given_string, given_value, front_text, Spaced, spaced_texts, SpellEach, SpellsRecordText}
 use Rattle.svcb_text.specs.TextReading.{read_record_text}
 use Rattle.svcb_text.proofs.ValueLaws.{value_has_form}
-use Rattle.svcb_text.proofs.ParamKeys.{HaveForms, AreFormed, distinct_fresh, formed_all, params_are}
+use Rattle.svcb_text.proofs.ParamKeys.{in_order, order_is, HaveForms, AreFormed, distinct_fresh, formed_all, params_are}
 use Rattle.svcb_text.proofs.Items.{blanks_end}
 use Rattle.svcb_text.proofs.FirstParam.{IsFirst}
 use Rattle.svcb_text.proofs.FirstRead.{value_bytes}
@@ -49,7 +48,7 @@ spelled_record x value bytes s =
     let behind : AreBytes (spaced_texts f.spaced ++ f.behind) = bytes_back (front_text f.front) (spaced_texts f.spaced ++ f.behind) (subst AreBytes f.text bytes) in
     let forms = each_forms f.spaced f.params f.behind behind f.each ends in
     let formed : AreFormed 0 (in_order f.params) = formed_all [] f.params forms (distinct_fresh f.params f.distinct) tt in
-    let formed_is : AreFormed 0 value.params = subst (AreFormed 0) (sym f.order) formed in
+    let formed_is : AreFormed 0 value.params = subst (AreFormed 0) (sym (order_is f.params value.params f.distinct f.order)) formed in
     let most : length (params_octets value.params) ≤ 65535 = back_most (bytes_high_first 2 value.priority) (wire_form value.target) (params_octets value.params) s.sized in
     record {
       priority = omega (arith, f.begins.number.most);

@@ -10,16 +10,13 @@ use Rattle.svcb_text.specs.StringGrammar.{IsPart, AreParts, opening, string_text
 use Rattle.svcb_text.specs.StringReading.{StringAnswer, read_string}
 use Rattle.svcb_text.proofs.ClassLaws.{raw_bound, escapable_bound}
 use Rattle.svcb_text.proofs.StringSays.{StringSays, string_says}
-use Rattle.svcb_text.proofs.StringSpelled.{spelled_reads, wrong_byte_reads, wrong_escape_reads, open_quote_reads, byte_behind_reads}
+use Rattle.svcb_text.proofs.StringSpelled.{string_read, wrong_byte_reads, wrong_escape_reads, open_quote_reads, byte_behind_reads}
 
 pub string_spells : (x : List ℕ) (value : Unescaped) (count : ℕ) → read_string x ≡ Ok (value, count) → SpellsString x value count
 string_spells x value count e = subst (StringSays x) e (string_says x)
 
 pub string_refuses : (x : List ℕ) (q : ℕ) → read_string x ≡ Err q → StringRefusedAt x q
 string_refuses x q e = subst (StringSays x) e (string_says x)
-
-pub string_read : (x : List ℕ) (value : Unescaped) (count : ℕ) → SpellsString x value count → read_string x ≡ Ok (value, count)
-string_read x value count s = spelled_reads x value count s
 
 pub string_refused : (x : List ℕ) (q : ℕ) → StringRefusedAt x q → read_string x ≡ Err q
 string_refused x q (inl s) = wrong_byte_reads x q s

@@ -9,9 +9,9 @@ use Rattle.svcb_text.specs.declared.token.Token.TheVariants as token
 use Rattle.svcb_text.specs.declared.unescaped.Unescaped.{Unescaped}
 use Rattle.svcb_text.specs.StringGrammar.{opening, BeginsStyle}
 use Rattle.svcb_text.specs.StringReading.{token_at, with_byte, read_string}
-use Rattle.svcb_text.proofs.Truth.{and_end, and_none}
 use Rattle.svcb_text.proofs.TokenLaws.{BeginsPart, TokenSays, token_says}
 use Rattle.svcb_text.proofs.StringSteps.{part_size, reads, reads_token}
+use Rattle.std.proofs.Math.Bool.{and-true, and-false}
 
 abbrev pub value_of : List ℕ → Bool → Unescaped
 value_of bytes plain = record { bytes = bytes; plain = plain }
@@ -52,14 +52,14 @@ pub raw_read : (text rest : List ℕ) (style : Style) (bytes new : List ℕ) (pl
     → StringRead text style bytes plain place → StringRead text style new plain (place + 1)
 raw_read text rest style bytes new plain place byte is found pushed read =
     byte_on text style bytes new plain plain place byte 1 true (says_there style text rest place _ is found)
-    (reads_token (token.Raw byte) style (value_of bytes plain) place (drop place text) (token_there style text rest place _ is found)) pushed (sym (and_end plain)) read
+    (reads_token (token.Raw byte) style (value_of bytes plain) place (drop place text) (token_there style text rest place _ is found)) pushed (sym (and-true plain)) read
 
 -- a byte on behind a backslash
 pub escaped_read : (text rest : List ℕ) (style : Style) (bytes new : List ℕ) (plain : Bool) (place byte count : ℕ) → rest ≡ drop place text → token_at style rest ≡ token.Escaped byte count → new ≡ bytes ++ byte ∷ []
     → StringRead text style bytes plain place → StringRead text style new false (place + count)
 escaped_read text rest style bytes new plain place byte count is found pushed read =
     byte_on text style bytes new plain false place byte count false (says_there style text rest place _ is found)
-    (reads_token (token.Escaped byte count) style (value_of bytes plain) place (drop place text) (token_there style text rest place _ is found)) pushed (sym (and_none plain)) read
+    (reads_token (token.Escaped byte count) style (value_of bytes plain) place (drop place text) (token_there style text rest place _ is found)) pushed (sym (and-false plain)) read
 
 -- how far a byte is on
 pub escaped_size : (text rest : List ℕ) (style : Style) (place byte count : ℕ) → place ≤ length text → rest ≡ drop place text → token_at style rest ≡ token.Escaped byte count → (1 ≤ count) × (place + count ≤ length text)

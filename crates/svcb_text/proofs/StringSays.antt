@@ -14,8 +14,8 @@ use Rattle.svcb_text.specs.declared.token.Token.TheVariants as token
 use Rattle.svcb_text.specs.declared.unescaped.Unescaped.{Unescaped}
 use Rattle.svcb_text.specs.StringGrammar.{IsPart, AreParts, opening, string_text, is_raw_part, meant, EndsItem, SpellsString, BeginsStyle, StringGoesOn, EndsNone, StringRefusedAt}
 use Rattle.svcb_text.specs.StringReading.{StringAnswer, is_end, with_end, string_ends, with_byte, token_at, read_by, read_tokens, read_string}
-use Rattle.svcb_text.proofs.Truth.{and_end, and_assoc}
 use Rattle.svcb_text.proofs.TokenLaws.{WrongSays, BadByte, BadEscape, Open, EndSays, BeginsPart, TokenSays, token_says}
+use Rattle.std.proofs.Math.Bool.{and-true, and_assoc}
 
 -- what an answer says
 abbrev pub StringSays : List ℕ → StringAnswer → Type 0
@@ -52,7 +52,7 @@ part_behind x style parts part more behind valid = record {
 }
 
 raw_push : (parts : List Part) (part : Part) → list_all is_raw_part (parts ++ part ∷ []) ≡ (list_all is_raw_part parts && is_raw_part part)
-raw_push [] part = and_end (is_raw_part part)
+raw_push [] part = and-true (is_raw_part part)
 raw_push (first ∷ parts) part = ap (λ t. is_raw_part first && t) (raw_push parts part) ∙ sym (and_assoc (is_raw_part first) (list_all is_raw_part parts) (is_raw_part part))
 
 pub same_value : (bytes bytes' : List ℕ) (plain plain' : Bool) → bytes ≡ bytes' → plain ≡ plain' → (let a : Unescaped = record { bytes = bytes; plain = plain } in a) ≡ (let b : Unescaped = record { bytes = bytes'; plain = plain' } in b)

@@ -11,12 +11,13 @@ use Rattle.svcb_text.specs.declared.token.Token.TheVariants as token
 use Rattle.svcb_text.specs.declared.unescaped.Unescaped.{Unescaped}
 use Rattle.svcb_text.specs.StringGrammar.{is_raw, IsPart, AreParts, opening, is_raw_part, meant, EndsItem, SpellsString, BeginsStyle, StringGoesOn, EndsNone, IsWrongByte, IsWrongEscape, IsOpenQuote, IsByteBehindQuote}
 use Rattle.svcb_text.specs.StringReading.{StringAnswer, is_end, with_end, with_byte, no_bytes, read_string}
-use Rattle.svcb_text.proofs.Truth.{clash, and_end, and_assoc}
 use Rattle.svcb_text.proofs.ClassLaws.{other_byte}
 use Rattle.svcb_text.proofs.TokenLaws.{token_part, token_bad_byte, token_bad_escape}
 use Rattle.svcb_text.proofs.StringSteps.{reads, reads_token}
 use Rattle.svcb_text.proofs.StringLoop.{begins_reads}
 use Rattle.svcb_text.proofs.StringSays.{Behind, size_of, same_value, closed_text, closed_size}
+use Rattle.alt_base.proofs.Booleans.{contradicts}
+use Rattle.std.proofs.Math.Bool.{and-true, and_assoc}
 
 same_reads : (style : Style) (v v' : Unescaped) (n n' : ℕ) (x x' : List ℕ) → v ≡ v' → n ≡ n' → x ≡ x' → reads style v n x ≡ reads style v' n' x'
 same_reads style v v' n n' x x' e f g = cc
@@ -39,7 +40,7 @@ with_parts value parts = record { bytes = value.bytes ++ map part_byte parts; pl
 -- parts are passed over
 parts_pass : (style : Style) (parts : List Part) (value : Unescaped) (count : ℕ) (rest : List ℕ) → AreParts style parts
     → reads style value count (parts_text parts ++ rest) ≡ reads style (with_parts value parts) (count + length (parts_text parts)) rest
-parts_pass style [] value count rest valid = same_reads style _ _ _ _ rest rest (same_value _ _ _ _ (sym (append-nil value.bytes)) (sym (and_end value.plain))) (omega arith) refl
+parts_pass style [] value count rest valid = same_reads style _ _ _ _ rest rest (same_value _ _ _ _ (sym (append-nil value.bytes)) (sym (and-true value.plain))) (omega arith) refl
 parts_pass style (part ∷ parts) value count rest valid =
     let size : length (parts_text (part ∷ parts)) ≡ length (part_text part) + length (parts_text parts) = length-append (part_text part) (parts_text parts) in
     same_reads style value value count count _ _ refl refl (append_assoc (part_text part) (parts_text parts) rest)
@@ -65,8 +66,8 @@ goes_reads x style rest count goes =
 -- a string that isn't between quotes begins with no quote
 part_begins : (part : Part) (more : List ℕ) → IsPart Contiguous part → BeginsStyle Contiguous (part_text part ++ more)
 part_begins (Raw b) more valid = other_byte (is_raw Contiguous) b 34 valid refl
-part_begins (Quoted b) more valid = λ e. clash (nat_eq 92 34) (subst (λ n. nat_eq 92 n ≡ true) e refl) refl
-part_begins (Decimal a b c) more valid = λ e. clash (nat_eq 92 34) (subst (λ n. nat_eq 92 n ≡ true) e refl) refl
+part_begins (Quoted b) more valid = λ e. contradicts (nat_eq 92 34) (subst (λ n. nat_eq 92 n ≡ true) e refl) refl
+part_begins (Decimal a b c) more valid = λ e. contradicts (nat_eq 92 34) (subst (λ n. nat_eq 92 n ≡ true) e refl) refl
 
 rest_begins : (rest : List ℕ) → EndsItem rest → BeginsStyle Contiguous rest
 rest_begins [] ends = refl
@@ -98,8 +99,8 @@ end_reads Contiguous value count rest ends = item_reads value count rest ends �
     same_found v n m e = rw e refl
 end_reads InQuotes value count rest ends = quote_reads value (count + 1) rest ends
 
-pub spelled_reads : (x : List ℕ) (value : Unescaped) (count : ℕ) → SpellsString x value count → read_string x ≡ Ok (value, count)
-spelled_reads x value count s =
+pub string_read : (x : List ℕ) (value : Unescaped) (count : ℕ) → SpellsString x value count → read_string x ≡ Ok (value, count)
+string_read x value count s =
     front_reads x s.style s.parts (opening s.style ++ s.rest) (spelled_behind x value count s) ∙ end_reads s.style (meant s.parts) (size_of s.style s.parts) s.rest s.ends
     ∙ same_found _ _ _ _ (sym s.means) (sym (s.size ∙ closed_size s.style s.parts))
   where

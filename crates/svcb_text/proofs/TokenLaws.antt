@@ -8,9 +8,11 @@ use Rattle.svcb_text.specs.declared.token.Style.TheVariants.{Contiguous, InQuote
 use Rattle.svcb_text.specs.declared.token.Token.{Token}
 use Rattle.svcb_text.specs.declared.token.Token.TheVariants as token
 use Rattle.svcb_text.specs.StringGrammar.{is_raw, is_escapable, IsPart, is_raw_part}
-use Rattle.svcb_text.specs.StringReading.{is_decimal, decimal_at, escape_at, is_end, token_at_end, token_at}
-use Rattle.svcb_text.proofs.Truth.{clash, and_true}
+use Rattle.svcb_text.specs.StringReading.{decimal_at, escape_at, is_end, token_at_end, token_at}
 use Rattle.svcb_text.proofs.ClassLaws.{raw_no_backslash, raw_no_end}
+use Rattle.alt_base.proofs.Booleans.{contradicts}
+use Rattle.dns_names.specs.TextReading.{is_decimal}
+use Rattle.dns_names.proofs.TextTokens.{decimal_holds}
 
 -- a backslash with this rest begins no part
 abbrev pub NoPart : Style → List ℕ → Type 0
@@ -62,12 +64,6 @@ TokenSays style x (token.Raw byte) = BeginsPart style x byte 1 true
 TokenSays style x (token.Escaped byte count) = BeginsPart style x byte count false
 TokenSays style x token.Wrong = WrongSays style x
 
-all_true : (a b c : ℕ) → is_decimal a b c ≡ true → (is_ascii_digit b ≡ true) × (is_ascii_digit c ≡ true) × (nat_le (decimal_value a b c) 255 ≡ true)
-all_true a b c h =
-    let one = and_true (is_ascii_digit b) _ h in
-    let two = and_true (is_ascii_digit c) _ one.1 in
-    (one.0, two.0, two.1)
-
 true_all : (style : Style) (a b c : ℕ) → IsPart style (Decimal a b c) → is_decimal a b c ≡ true
 true_all style a b c valid = all (is_ascii_digit b) (is_ascii_digit c) (nat_le (decimal_value a b c) 255) valid.1 valid.2 (le_true _ _ valid.3)
   where
@@ -81,17 +77,17 @@ no_part style rest quoted decimal (Decimal a b c) more valid e = let same : rest
 
 -- a digit isn't behind a backslash alone
 no_quoted : (style : Style) (a b : ℕ) (rest more : List ℕ) → is_ascii_digit a ≡ true → a ∷ rest ≡ b ∷ more → IsPart style (Quoted b) → ⊥
-no_quoted style a b rest more digit e valid = let same : a ≡ b = cc in clash (is_ascii_digit b) (subst (λ n. is_ascii_digit n ≡ true) same digit) valid.1
+no_quoted style a b rest more digit e valid = let same : a ≡ b = cc in contradicts (is_ascii_digit b) (subst (λ n. is_ascii_digit n ≡ true) same digit) valid.1
 
 wrong_escape : (style : Style) (rest : List ℕ) → ((b : ℕ) (more : List ℕ) → rest ≡ b ∷ more → IsPart style (Quoted b) → ⊥) → ((a b c : ℕ) (more : List ℕ) → rest ≡ a ∷ b ∷ c ∷ more → IsPart style (Decimal a b c) → ⊥) → WrongSays style (92 ∷ rest)
 wrong_escape style rest quoted decimal = BadEscape (record { rest = rest; text = refl; bad = no_part style rest quoted decimal })
 
 three_says : (style : Style) (a b c : ℕ) (rest : List ℕ) (t : Bool) → is_ascii_digit a ≡ true → is_decimal a b c ≡ t → TokenSays style (92 ∷ a ∷ b ∷ c ∷ rest) (cond t (token.Escaped (decimal_value a b c) 4) token.Wrong)
 three_says style a b c rest true digit is =
-    let all = all_true a b c is in
+    let all = decimal_holds a b c is in
     record { part = Decimal a b c; more = rest; valid = (digit, all.0, all.1, true_le _ _ all.2); text = refl; byte_is = refl; count_is = refl; raw_is = refl }
 three_says style a b c rest false digit is =
-    wrong_escape style (a ∷ b ∷ c ∷ rest) (λ n more e valid. no_quoted style a n (b ∷ c ∷ rest) more digit e valid) (λ a' b' c' more e valid. clash (is_decimal a b c) (same a' b' c' more e valid) is)
+    wrong_escape style (a ∷ b ∷ c ∷ rest) (λ n more e valid. no_quoted style a n (b ∷ c ∷ rest) more digit e valid) (λ a' b' c' more e valid. contradicts (is_decimal a b c) (same a' b' c' more e valid) is)
   where
     same : (a' b' c' : ℕ) (more : List ℕ) → a ∷ b ∷ c ∷ rest ≡ a' ∷ b' ∷ c' ∷ more → IsPart style (Decimal a' b' c') → is_decimal a b c ≡ true
     same a' b' c' more e valid =
@@ -108,8 +104,8 @@ digit_says style a (b ∷ c ∷ rest) digit = three_says style a b c rest (is_de
 other_says : (style : Style) (b : ℕ) (rest : List ℕ) (shown : Bool) → is_ascii_digit b ≡ false → is_escapable style b ≡ shown → TokenSays style (92 ∷ b ∷ rest) (cond shown (token.Escaped b 2) token.Wrong)
 other_says style b rest true digit is = record { part = Quoted b; more = rest; valid = (is, digit); text = refl; byte_is = refl; count_is = refl; raw_is = refl }
 other_says style b rest false digit is =
-    wrong_escape style (b ∷ rest) (λ n more e valid. let same : b ≡ n = cc in clash (is_escapable style n) valid.0 (subst (λ m. is_escapable style m ≡ false) same is))
-    (λ a' b' c' more e valid. let same : b ≡ a' = cc in clash (is_ascii_digit a') valid.0 (subst (λ m. is_ascii_digit m ≡ false) same digit))
+    wrong_escape style (b ∷ rest) (λ n more e valid. let same : b ≡ n = cc in contradicts (is_escapable style n) valid.0 (subst (λ m. is_escapable style m ≡ false) same is))
+    (λ a' b' c' more e valid. let same : b ≡ a' = cc in contradicts (is_ascii_digit a') valid.0 (subst (λ m. is_ascii_digit m ≡ false) same digit))
 
 behind_says : (style : Style) (b : ℕ) (rest : List ℕ) (digit : Bool) → is_ascii_digit b ≡ digit → TokenSays style (92 ∷ b ∷ rest) (cond digit (decimal_at b rest) (cond (is_escapable style b) (token.Escaped b 2) token.Wrong))
 behind_says style b rest true is = digit_says style b rest is
@@ -172,7 +168,7 @@ pub token_bad_escape : (style : Style) (rest : List ℕ) → NoPart style rest �
 token_bad_escape style rest none = token_slash style rest ∙ by_token (escape_at style rest) (escape_says style rest)
   where
     by_token : (t : Token) → TokenSays style (92 ∷ rest) t → t ≡ token.Wrong
-    by_token token.End s = clash (is_end style 92) s (slash_no_end style)
+    by_token token.End s = contradicts (is_end style 92) s (slash_no_end style)
     by_token (token.Raw byte) s = absurd (none s.part s.more s.valid s.text)
     by_token (token.Escaped byte count) s = absurd (none s.part s.more s.valid s.text)
     by_token token.Wrong s = refl

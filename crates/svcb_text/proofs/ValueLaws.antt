@@ -15,9 +15,7 @@ use Rattle.svcb_text.proofs.AddressLists.{addresses_read, addresses_spell, addre
 use Rattle.svcb_text.proofs.DigitTexts.{port_read, port_spells}
 use Rattle.svcb_text.proofs.IdTexts.{ids_read, ids_spell, ids_form}
 use Rattle.svcb_text.proofs.KeyLists.{list_read, list_spells, list_form}
-
-some_param : (p q : Param) → (let a : Option Param = Some p in a) ≡ Some q → p ≡ q
-some_param p q e = cc
+use Rattle.alt_base.proofs.Variants.{same_some}
 
 -- a value that is read where no backslash stands
 record Plainly (plain : Bool) (o : Option Param) (param : Param) : Type 0 where
@@ -33,20 +31,20 @@ mandatory_spells key value param is h = let p = plainly _ _ _ h in go (read_keys
   where
     go : (o : Option (List ℕ)) → read_keys value.bytes ≡ o → value.plain ≡ true → option_map Mandatory o ≡ Some param → SpellsValue key value param
     go None from plain e = cc
-    go (Some keys) from plain e = subst (SpellsValue key value) (some_param _ _ e) (is, plain, list_spells value.bytes keys from)
+    go (Some keys) from plain e = subst (SpellsValue key value) (same_some _ _ e) (is, plain, list_spells value.bytes keys from)
 
 alpn_spells : (key : ℕ) (value : Unescaped) (param : Param) → key ≡ 1 → option_map Alpn (read_ids value.bytes) ≡ Some param → SpellsValue key value param
 alpn_spells key value param is h = go (read_ids value.bytes) refl h
   where
     go : (o : Option (List (List ℕ))) → read_ids value.bytes ≡ o → option_map Alpn o ≡ Some param → SpellsValue key value param
     go None from e = cc
-    go (Some ids) from e = subst (SpellsValue key value) (some_param _ _ e) (is, ids_spell value.bytes ids from)
+    go (Some ids) from e = subst (SpellsValue key value) (same_some _ _ e) (is, ids_spell value.bytes ids from)
 
 nothing_spells : (key : ℕ) (value : Unescaped) (param : Param) → key ≡ 2 → read_nothing value.bytes ≡ Some param → SpellsValue key value param
 nothing_spells key value param is h = go value.bytes refl h
   where
     go : (bytes : List ℕ) → value.bytes ≡ bytes → read_nothing bytes ≡ Some param → SpellsValue key value param
-    go [] from e = subst (SpellsValue key value) (some_param _ _ e) (is, from)
+    go [] from e = subst (SpellsValue key value) (same_some _ _ e) (is, from)
     go (b ∷ bs) from e = cc
 
 port_value_spells : (key : ℕ) (value : Unescaped) (param : Param) → key ≡ 3 → where_plain value.plain (option_map Port (read_port value.bytes)) ≡ Some param → SpellsValue key value param
@@ -54,21 +52,21 @@ port_value_spells key value param is h = let p = plainly _ _ _ h in go (read_por
   where
     go : (o : Option ℕ) → read_port value.bytes ≡ o → value.plain ≡ true → option_map Port o ≡ Some param → SpellsValue key value param
     go None from plain e = cc
-    go (Some port) from plain e = subst (SpellsValue key value) (some_param _ _ e) (is, plain, port_spells value.bytes port from)
+    go (Some port) from plain e = subst (SpellsValue key value) (same_some _ _ e) (is, plain, port_spells value.bytes port from)
 
 v4_spells : (key : ℕ) (value : Unescaped) (param : Param) → key ≡ 4 → where_plain value.plain (option_map V4Hint (read_each read_v4 (items_of value.bytes))) ≡ Some param → SpellsValue key value param
 v4_spells key value param is h = let p = plainly _ _ _ h in go (read_each read_v4 (items_of value.bytes)) refl p.is_plain p.some
   where
     go : (o : Option (List (List ℕ))) → read_each read_v4 (items_of value.bytes) ≡ o → value.plain ≡ true → option_map V4Hint o ≡ Some param → SpellsValue key value param
     go None from plain e = cc
-    go (Some addresses) from plain e = subst (SpellsValue key value) (some_param _ _ e) (is, plain, addresses_spell 4 read_v4 SpellsV4 value.bytes addresses v4_reader from)
+    go (Some addresses) from plain e = subst (SpellsValue key value) (same_some _ _ e) (is, plain, addresses_spell 4 read_v4 SpellsV4 value.bytes addresses v4_reader from)
 
 v6_spells : (key : ℕ) (value : Unescaped) (param : Param) → key ≡ 6 → where_plain value.plain (option_map V6Hint (read_each read_v6 (items_of value.bytes))) ≡ Some param → SpellsValue key value param
 v6_spells key value param is h = let p = plainly _ _ _ h in go (read_each read_v6 (items_of value.bytes)) refl p.is_plain p.some
   where
     go : (o : Option (List (List ℕ))) → read_each read_v6 (items_of value.bytes) ≡ o → value.plain ≡ true → option_map V6Hint o ≡ Some param → SpellsValue key value param
     go None from plain e = cc
-    go (Some addresses) from plain e = subst (SpellsValue key value) (some_param _ _ e) (is, plain, addresses_spell 16 read_v6 SpellsV6 value.bytes addresses v6_reader from)
+    go (Some addresses) from plain e = subst (SpellsValue key value) (same_some _ _ e) (is, plain, addresses_spell 16 read_v6 SpellsV6 value.bytes addresses v6_reader from)
 
 other_key : (key : ℕ) → key < 65536 → key ≢ 0 → key ≢ 1 → key ≢ 2 → key ≢ 3 → key ≢ 4 → key ≢ 6 → (t : Bool) → nat_eq key 5 ≡ t → IsOtherKey key
 other_key key h a b c d e f true p = inl (true_eq key 5 p)
@@ -86,7 +84,7 @@ spells_by false false false true e f key value param h p q r s t u is = port_val
 spells_by false false false false true f key value param h p q r s t u is = v4_spells key value param (true_eq key 4 t) is
 spells_by false false false false false true key value param h p q r s t u is = v6_spells key value param (true_eq key 6 u) is
 spells_by false false false false false false key value param h p q r s t u is =
-    subst (SpellsValue key value) (some_param _ _ is)
+    subst (SpellsValue key value) (same_some _ _ is)
     (refl, other_key key h (false_eq key 0 p) (false_eq key 1 q) (false_eq key 2 r) (false_eq key 3 s) (false_eq key 4 t) (false_eq key 6 u) (nat_eq key 5) refl, refl)
 
 -- what is read is spelled

@@ -7,7 +7,7 @@ use Rattle.svcb_wire.specs.Forms.{IsId, AreIds}
 use Rattle.svcb_text.specs.ValueReading.{is_escaped}
 use Rattle.svcb_text.specs.ValueGrammar.{IdPart, Plain, Escaped, IsIdPart, AreIdParts, id_part_text, id_part_byte, id_text, IsIdText, AreIdTexts, SpellsIds}
 use Rattle.svcb_text.specs.Written.{id_written}
-use Rattle.svcb_text.proofs.Truth.{or_true, or_false}
+use Rattle.std.proofs.lemmas.Bool.{or_cases, or_parts}
 
 abbrev id_part : ℕ → IdPart
 id_part b = cond (is_escaped b) (Escaped b) (Plain b)
@@ -32,8 +32,8 @@ part_written : (b : ℕ) (more : List ℕ) → IsWrittenPart b (id_part b) more 
 part_written b more = go (is_escaped b) refl
   where
     go : (t : Bool) → is_escaped b ≡ t → IsWrittenPart b (cond t (Escaped b) (Plain b)) more (cond t (92 ∷ b ∷ more) (b ∷ more))
-    go true is = record { valid = escaped_part b (or_true (nat_eq b 44) (nat_eq b 92) is); spells = refl; stands = refl }
-    go false is = record { valid = plain_part b (or_false (nat_eq b 44) (nat_eq b 92) is); spells = refl; stands = refl }
+    go true is = record { valid = escaped_part b (or_cases (nat_eq b 44) (nat_eq b 92) is); spells = refl; stands = refl }
+    go false is = record { valid = plain_part b (or_parts (nat_eq b 44) (nat_eq b 92) is); spells = refl; stands = refl }
 
 parts_valid : (id : List ℕ) → AreIdParts (id_parts id)
 parts_valid [] = tt

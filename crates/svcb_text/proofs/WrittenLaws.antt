@@ -10,7 +10,7 @@ use Rattle.svcb_wire.specs.Forms.{AreParams}
 use Rattle.svcb_wire.specs.Records.{IsRecord, record_octets}
 use Rattle.svcb_text.specs.TextGrammar.{AreBlanks, given_head, given_string, Spaced, spaced_texts, SpellEach, SpellsPriority, Front, front_text, SpellsFront, IsAllowed, HasForm, SpellsRecordText}
 use Rattle.svcb_text.specs.Written.{params_written, record_text}
-use Rattle.svcb_text.proofs.WrittenOrder.{params_in_order, params_distinct}
+use Rattle.svcb_text.proofs.WrittenOrder.{params_order, params_distinct}
 use Rattle.svcb_text.proofs.WrittenValues.{given_of, given_text, is_given, value_spelled}
 
 -- one space
@@ -67,7 +67,7 @@ form_written value is short = record {
   each = each_spelled 0 value.params is.params;
   blanks = tt;
   distinct = params_distinct 0 value.params is.params;
-  order = params_in_order value.params is.params;
+  order = params_order value.params is.params;
   short = short;
 }
 

@@ -1,34 +1,19 @@
 -- Rising keys are distinct, and parameters in rising keys stand in the order of their keys.
-use Rattle.std.proofs.Common.{◌≡◌, ◌≢◌, ℕ, suc, ◌<◌, ◌≤◌, cond, List, [], ◌∷◌, ◌++◌, refl, ap, sym, ◌∙◌, arith, append_assoc, append-nil}
-use Rattle.alt_base.proofs.Numbers.{lt_false}
+use Rattle.std.proofs.Common.{◌≢◌, ℕ, suc, ◌<◌, ◌≤◌, List, [], ◌∷◌, map, arith}
+use Rattle.std.proofs.lemmas.List.Sorted.{IsPermutation-refl}
 use Rattle.svcb_wire.specs.declared.param.Param.{Param}
 use Rattle.svcb_wire.specs.Octets.{key_of}
 use Rattle.svcb_wire.specs.Forms.{AreRising, AreParams}
-use Rattle.svcb_text.specs.ParamOrder.{IsNew, AreDistinct, placed_key, keys_placed, keys_in_order, placed, all_placed, in_order, keys_of}
+use Rattle.svcb_text.specs.ParamOrder.{IsNew, AreDistinct, IsOrderOf, keys_of}
 use Rattle.svcb_text.specs.ValueGrammar.{AreMandatory}
+use Rattle.svcb_text.proofs.Order.{RiseFrom, rise_increases}
 
--- keys below a bound
-abbrev AreBelow : ℕ → List ℕ → Type 0
-AreBelow bound [] = Unit {0}
-AreBelow bound (key ∷ keys) = (key < bound) × AreBelow bound keys
+pub keys_rise : (last : ℕ) (keys : List ℕ) → AreRising last keys → RiseFrom (suc last) (map (λ key. key) keys)
+keys_rise last [] r = tt
+keys_rise last (key ∷ keys) r = (omega (arith, r.0), keys_rise key keys r.2)
 
-below_more : (bound key : ℕ) (keys : List ℕ) → AreBelow bound keys → bound ≤ key → AreBelow (suc key) (keys ++ key ∷ [])
-below_more bound key [] h least = (omega arith, tt)
-below_more bound key (other ∷ keys) h least = (omega (arith, h.0), below_more bound key keys h.1 least)
-
-placed_last : (key bound : ℕ) (keys : List ℕ) → AreBelow bound keys → bound ≤ key → placed_key key keys ≡ keys ++ key ∷ []
-placed_last key bound [] h least = refl
-placed_last key bound (other ∷ keys) h least =
-    ap (λ t. cond t (key ∷ other ∷ keys) (other ∷ placed_key key keys)) (lt_false key other (omega (arith, h.0))) ∙ ap (λ xs. other ∷ xs) (placed_last key bound keys h.1 least)
-
-keys_stay : (last : ℕ) (before keys : List ℕ) → AreBelow (suc last) before → AreRising last keys → keys_placed before keys ≡ before ++ keys
-keys_stay last before [] h rising = sym (append-nil before)
-keys_stay last before (key ∷ keys) h rising =
-    ap (λ xs. keys_placed xs keys) (placed_last key (suc last) before h (omega (arith, rising.0)))
-    ∙ keys_stay key (before ++ key ∷ []) keys (below_more (suc last) key before h (omega (arith, rising.0))) rising.2 ∙ append_assoc before (key ∷ []) keys
-
-pub rising_in_order : (keys : List ℕ) → AreRising 0 keys → keys ≡ keys_in_order keys
-rising_in_order keys h = sym (keys_stay 0 [] keys tt h)
+pub rising_order : (keys : List ℕ) → AreRising 0 keys → IsOrderOf (λ key. key) keys keys
+rising_order keys r = record { same = IsPermutation-refl keys; rising = rise_increases (map (λ key. key) keys) 1 (keys_rise 0 keys r) }
 
 rising_new : (key last : ℕ) (keys : List ℕ) → key ≤ last → AreRising last keys → IsNew key keys
 rising_new key last [] least rising = tt
@@ -43,23 +28,12 @@ rising_mandatory last (key ∷ keys) rising =
     (omega (arith, rising.0), rising.1, rising_new key key keys (omega arith) rising.2, rising_mandatory key keys rising.2)
 
 -- the same of parameters
-last_param : (param : Param) (bound : ℕ) (params : List Param) → AreBelow bound (keys_of params) → bound ≤ key_of param → placed param params ≡ params ++ param ∷ []
-last_param param bound [] h least = refl
-last_param param bound (other ∷ params) h least =
-    ap (λ t. cond t (param ∷ other ∷ params) (other ∷ placed param params)) (lt_false (key_of param) (key_of other) (omega (arith, h.0))) ∙ ap (λ xs. other ∷ xs) (last_param param bound params h.1 least)
+params_rise : (least : ℕ) (params : List Param) → AreParams least params → RiseFrom least (keys_of params)
+params_rise least [] are = tt
+params_rise least (param ∷ params) are = (are.0, params_rise (suc (key_of param)) params are.2)
 
-params_below : (bound : ℕ) (param : Param) (params : List Param) → AreBelow bound (keys_of params) → bound ≤ key_of param → AreBelow (suc (key_of param)) (keys_of (params ++ param ∷ []))
-params_below bound param [] h least = (omega arith, tt)
-params_below bound param (other ∷ params) h least = (omega (arith, h.0), params_below bound param params h.1 least)
-
-params_stay : (least : ℕ) (before params : List Param) → AreBelow least (keys_of before) → AreParams least params → all_placed before params ≡ before ++ params
-params_stay least before [] h are = sym (append-nil before)
-params_stay least before (param ∷ params) h are =
-    ap (λ xs. all_placed xs params) (last_param param least before h are.0)
-    ∙ params_stay (suc (key_of param)) (before ++ param ∷ []) params (params_below least param before h are.0) are.2 ∙ append_assoc before (param ∷ []) params
-
-pub params_in_order : (params : List Param) → AreParams 0 params → params ≡ in_order params
-params_in_order params h = sym (params_stay 0 [] params tt h)
+pub params_order : (params : List Param) → AreParams 0 params → IsOrderOf key_of params params
+params_order params are = record { same = IsPermutation-refl params; rising = rise_increases (keys_of params) 0 (params_rise 0 params are) }
 
 params_new : (key least : ℕ) (params : List Param) → key < least → AreParams least params → IsNew key (keys_of params)
 params_new key least [] below are = tt

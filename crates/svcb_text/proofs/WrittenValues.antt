@@ -18,7 +18,7 @@ use Rattle.svcb_text.specs.Written.{written_part, in_quotes, id_written, param_w
 use Rattle.svcb_text.proofs.QuotingLaws.{quoted_parts_valid, quoted_parts_mean}
 use Rattle.svcb_text.proofs.ValueTexts.{AreContiguous, AreAllContiguous, raw_parts, raw_text, raw_bytes, raw_plain, joined_contiguous, name_contiguous, decimal_contiguous, v4_spelled, v6_spelled, v4_contiguous, v6_contiguous}
 use Rattle.svcb_text.proofs.WrittenIds.{ids_spelled, ids_bytes}
-use Rattle.svcb_text.proofs.WrittenOrder.{rising_in_order, rising_mandatory}
+use Rattle.svcb_text.proofs.WrittenOrder.{rising_order, rising_mandatory}
 
 abbrev keys_text : List ℕ → List ℕ
 keys_text keys = join_with_byte 44 (map key_name keys)
@@ -147,7 +147,7 @@ keys_spelled keys some rising = record {
   some = some_keys keys some;
   are_mandatory = rising_mandatory 0 keys rising;
   spelled = refl;
-  value = rising_in_order keys rising;
+  order = rising_order keys rising;
 }
 
 v4s_spelled : (addresses : List (List ℕ)) → 1 ≤ length addresses → AreAddresses 4 addresses → SpellsAddresses SpellsV4 (v4s_text addresses) addresses

@@ -5,6 +5,7 @@ pub mod StringAnswers
 pub mod ValueGrammar
 pub mod ValueReading
 pub mod ParamOrder
+pub mod Placing
 pub mod TextGrammar
 pub mod TextRefusals
 pub mod TextReading

@@ -1,18 +1,15 @@
 -- Reading a value's string, token by token.
-use Rattle.std.specs.Prelude.{ℕ, zero, suc, ◌+◌, Bool, true, false, ◌&&◌, nat_eq, nat_le, if◌then◌else◌, List, [], ◌∷◌, ◌++◌, length, drop, Result, Ok, Err}
+use Rattle.std.specs.Prelude.{ℕ, zero, suc, ◌+◌, Bool, true, false, ◌&&◌, nat_eq, if◌then◌else◌, List, [], ◌∷◌, ◌++◌, length, drop, Result, Ok, Err}
 use Rattle.std.specs.Char.{is_ascii_digit}
 use Rattle.field_text.specs.BlanksGrammar.{is_blank}
 use Rattle.dns_names.specs.TextParts.{decimal_value}
+use Rattle.dns_names.specs.TextReading.{is_decimal}
 use Rattle.svcb_text.specs.declared.token.Style.{Style}
 use Rattle.svcb_text.specs.declared.token.Style.TheVariants.{Contiguous, InQuotes}
 use Rattle.svcb_text.specs.declared.token.Token.{Token}
 use Rattle.svcb_text.specs.declared.token.Token.TheVariants as token
 use Rattle.svcb_text.specs.declared.unescaped.Unescaped.{Unescaped}
 use Rattle.svcb_text.specs.StringGrammar.{is_raw, is_escapable}
-
--- two more digits, and all three of a byte's value
-abbrev pub is_decimal : ℕ → ℕ → ℕ → Bool
-is_decimal a b c = is_ascii_digit b && (is_ascii_digit c && nat_le (decimal_value a b c) 255)
 
 -- behind a backslash and a digit
 abbrev pub decimal_at : ℕ → List ℕ → Token

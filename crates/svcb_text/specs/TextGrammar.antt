@@ -7,6 +7,7 @@ use Rattle.dns_names.specs.TextParts.{Part}
 use Rattle.dns_names.specs.TextGrammar.{SpellsText}
 use Rattle.svcb_wire.specs.declared.param.Param.{Param}
 use Rattle.svcb_wire.specs.declared.svcb.Svcb.{Svcb}
+use Rattle.svcb_wire.specs.Octets.{key_of}
 use Rattle.svcb_wire.specs.Records.{record_octets}
 use Rattle.svcb_wire.specs.Usable.{is_consistent}
 use Rattle.svcb_text.specs.declared.token.Style.{Style}
@@ -14,7 +15,7 @@ use Rattle.svcb_text.specs.declared.unescaped.Unescaped.{Unescaped}
 use Rattle.svcb_text.specs.KeyNames.{key_name}
 use Rattle.svcb_text.specs.StringGrammar.{AreParts, string_text, meant}
 use Rattle.svcb_text.specs.ValueGrammar.{SpellsValue}
-use Rattle.svcb_text.specs.ParamOrder.{AreDistinct, keys_of, in_order}
+use Rattle.svcb_text.specs.ParamOrder.{AreDistinct, IsOrderOf, keys_of}
 
 -- a key alone, or a key, `=` and a string
 pub data GivenParam : Type 0 where
@@ -108,7 +109,7 @@ pub record HasForm (x : List ℕ) (value : Svcb) : Type 0 where
   pub each : SpellEach spaced params
   pub blanks : AllIn is_blank behind
   pub distinct : AreDistinct (keys_of params)
-  pub order : value.params ≡ in_order params
+  pub order : IsOrderOf key_of params value.params
   pub short : length x ≤ 65535
 
 -- only AliasMode records may be inconsistent (RFC 9460 8 and 2.4.2)

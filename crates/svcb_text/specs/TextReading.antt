@@ -16,7 +16,7 @@ use Rattle.alt_base.specs.Answers.{refused}
 use Rattle.svcb_text.specs.KeyNames.{is_key_byte, key_named}
 use Rattle.svcb_text.specs.StringReading.{StringAnswer, read_string, no_bytes}
 use Rattle.svcb_text.specs.ValueReading.{read_value}
-use Rattle.svcb_text.specs.ParamOrder.{placed}
+use Rattle.svcb_text.specs.Placing.{placed}
 
 -- a parameter and how many bytes it takes, or a refusal at a place
 abbrev pub ParamAnswer : Type 0

@@ -8,7 +8,7 @@ use Rattle.svcb_wire.specs.declared.param.Param.TheVariants.{Mandatory, Alpn, No
 use Rattle.svcb_wire.specs.Forms.{IsOtherKey}
 use Rattle.svcb_text.specs.declared.unescaped.Unescaped.{Unescaped}
 use Rattle.svcb_text.specs.KeyNames.{key_name}
-use Rattle.svcb_text.specs.ParamOrder.{IsNew, keys_in_order}
+use Rattle.svcb_text.specs.ParamOrder.{IsNew, IsOrderOf}
 
 -- keys of a mandatory list: none is mandatory itself, and none stands twice
 abbrev pub AreMandatory : List ℕ → Type 0
@@ -21,7 +21,7 @@ pub record SpellsKeys (text keys : List ℕ) : Type 0 where
   pub some : named ≢ []
   pub are_mandatory : AreMandatory named
   pub spelled : text ≡ join_with_byte 44 (map key_name named)
-  pub value : keys ≡ keys_in_order named
+  pub order : IsOrderOf (λ key. key) named keys
 
 -- a byte of an id that stands for itself, or a comma or a backslash behind a backslash
 pub data IdPart : Type 0 where

@@ -11,7 +11,7 @@ use Rattle.svcb_wire.specs.declared.param.Param.{Param}
 use Rattle.svcb_wire.specs.declared.param.Param.TheVariants.{Mandatory, Alpn, NoDefaultAlpn, Port, V4Hint, Other, V6Hint}
 use Rattle.svcb_text.specs.declared.unescaped.Unescaped.{Unescaped}
 use Rattle.svcb_text.specs.KeyNames.{key_named}
-use Rattle.svcb_text.specs.ParamOrder.{placed_key}
+use Rattle.svcb_text.specs.Placing.{placed_key}
 
 -- the texts between the commas
 abbrev pub items_of : List ℕ → List (List ℕ)

@@ -27,85 +27,68 @@ fn refuses(rt: &impl Abort, alloc: Global, text: &[u8], place: usize) {
 }
 
 #[test]
-fn strings_up_to_a_blank(rt: HostRuntime) -> Result<(), Fail> {
-    spells(&rt, rt.alloc(), b"", b"", true, 0)?;
-    spells(&rt, rt.alloc(), b" ab", b"", true, 0)?;
-    spells(&rt, rt.alloc(), b"\tab", b"", true, 0)?;
-    spells(&rt, rt.alloc(), b"h2,h3", b"h2,h3", true, 5)?;
-    spells(&rt, rt.alloc(), b"h2 port=1", b"h2", true, 2)?;
-    spells(&rt, rt.alloc(), b"!#'*:<[]~", b"!#'*:<[]~", true, 9)?;
-    spells(&rt, rt.alloc(), b"\\032", b" ", false, 4)?;
-    spells(
-        &rt,
-        rt.alloc(),
-        b"\\\"\\;\\(\\)\\\\ x",
-        b"\";()\\",
-        false,
-        10,
-    )?;
-    spells(&rt, rt.alloc(), b"a\\000\\255b", b"a\x00\xffb", false, 10)
+fn strings_that_are_read(rt: HostRuntime) -> Result<(), Fail> {
+    // The text, the bytes for which its string stands, whether it has no backslash, and how many bytes it takes.
+    let rows: [(&[u8], &[u8], bool, usize); 15] = [
+        (b"", b"", true, 0),
+        (b" ab", b"", true, 0),
+        (b"\tab", b"", true, 0),
+        (b"h2,h3", b"h2,h3", true, 5),
+        (b"h2 port=1", b"h2", true, 2),
+        (b"!#'*:<[]~", b"!#'*:<[]~", true, 9),
+        (b"\\032", b" ", false, 4),
+        (b"\\\"\\;\\(\\)\\\\ x", b"\";()\\", false, 10),
+        (b"a\\000\\255b", b"a\x00\xffb", false, 10),
+        (b"\"\"", b"", true, 2),
+        (b"\"h2\"", b"h2", true, 4),
+        (b"\"a b\tc\" d", b"a b\tc", true, 7),
+        (b"\";()\"\tx", b";()", true, 5),
+        (b"\"\\\"\\\\\\ \\\t\"", b"\"\\ \t", false, 10),
+        (b"\"\\032x\"", b" x", false, 7),
+    ];
+    for (text, bytes, plain, count) in rows {
+        spells(&rt, rt.alloc(), text, bytes, plain, count)?;
+    }
+    Ok(())
 }
 
 #[test]
-fn strings_between_quotes(rt: HostRuntime) -> Result<(), Fail> {
-    spells(&rt, rt.alloc(), b"\"\"", b"", true, 2)?;
-    spells(&rt, rt.alloc(), b"\"h2\"", b"h2", true, 4)?;
-    spells(&rt, rt.alloc(), b"\"a b\tc\" d", b"a b\tc", true, 7)?;
-    spells(&rt, rt.alloc(), b"\";()\"\tx", b";()", true, 5)?;
-    spells(
-        &rt,
-        rt.alloc(),
-        b"\"\\\"\\\\\\ \\\t\"",
-        b"\"\\ \t",
-        false,
-        10,
-    )?;
-    spells(&rt, rt.alloc(), b"\"\\032x\"", b" x", false, 7)
-}
-
-#[test]
-fn wrong_bytes(rt: HostRuntime) {
-    refuses(&rt, rt.alloc(), b";", 0);
-    refuses(&rt, rt.alloc(), b"a(", 1);
-    refuses(&rt, rt.alloc(), b"ab)", 2);
-    refuses(&rt, rt.alloc(), b"a\"b\"", 1);
-    refuses(&rt, rt.alloc(), b"a\x7f", 1);
-    refuses(&rt, rt.alloc(), b"a\x80", 1);
-    refuses(&rt, rt.alloc(), b"\x00", 0);
-    refuses(&rt, rt.alloc(), b"\"a\x00\"", 2);
-    refuses(&rt, rt.alloc(), b"\"\x7f\"", 1);
-    refuses(&rt, rt.alloc(), b"\"\xff\"", 1);
-}
-
-#[test]
-fn wrong_escapes(rt: HostRuntime) {
-    refuses(&rt, rt.alloc(), b"\\", 0);
-    refuses(&rt, rt.alloc(), b"ab\\", 2);
-    refuses(&rt, rt.alloc(), b"\\ ", 0);
-    refuses(&rt, rt.alloc(), b"\\\t", 0);
-    refuses(&rt, rt.alloc(), b"\\\x80", 0);
-    refuses(&rt, rt.alloc(), b"\\25", 0);
-    refuses(&rt, rt.alloc(), b"a\\25x", 1);
-    refuses(&rt, rt.alloc(), b"\\256", 0);
-    refuses(&rt, rt.alloc(), b"\"\\256\"", 1);
-    refuses(&rt, rt.alloc(), b"\"\\25\"", 1);
-    refuses(&rt, rt.alloc(), b"\"\\", 1);
-    refuses(&rt, rt.alloc(), b"\"ab\\", 3);
-    refuses(&rt, rt.alloc(), b"\"\\\x7f\"", 1);
-}
-
-#[test]
-fn open_quotes(rt: HostRuntime) {
-    refuses(&rt, rt.alloc(), b"\"", 1);
-    refuses(&rt, rt.alloc(), b"\"ab", 3);
-    refuses(&rt, rt.alloc(), b"\"ab\\\"", 5);
-}
-
-#[test]
-fn bytes_behind_a_quote(rt: HostRuntime) {
-    refuses(&rt, rt.alloc(), b"\"\"a", 2);
-    refuses(&rt, rt.alloc(), b"\"ab\"\"", 4);
-    refuses(&rt, rt.alloc(), b"\"ab\"\\032", 4);
+fn strings_that_are_refused(rt: HostRuntime) {
+    // The text, and the place: of a wrong byte, of a backslash, at the end of an open quote, behind a closing one.
+    let rows: [(&[u8], usize); 29] = [
+        (b";", 0),
+        (b"a(", 1),
+        (b"ab)", 2),
+        (b"a\"b\"", 1),
+        (b"a\x7f", 1),
+        (b"a\x80", 1),
+        (b"\x00", 0),
+        (b"\"a\x00\"", 2),
+        (b"\"\x7f\"", 1),
+        (b"\"\xff\"", 1),
+        (b"\\", 0),
+        (b"ab\\", 2),
+        (b"\\ ", 0),
+        (b"\\\t", 0),
+        (b"\\\x80", 0),
+        (b"\\25", 0),
+        (b"a\\25x", 1),
+        (b"\\256", 0),
+        (b"\"\\256\"", 1),
+        (b"\"\\25\"", 1),
+        (b"\"\\", 1),
+        (b"\"ab\\", 3),
+        (b"\"\\\x7f\"", 1),
+        (b"\"", 1),
+        (b"\"ab", 3),
+        (b"\"ab\\\"", 5),
+        (b"\"\"a", 2),
+        (b"\"ab\"\"", 4),
+        (b"\"ab\"\\032", 4),
+    ];
+    for (text, place) in rows {
+        refuses(&rt, rt.alloc(), text, place);
+    }
 }
 
 #[test]

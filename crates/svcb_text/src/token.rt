@@ -3,7 +3,8 @@ ghost use Rattle.std.specs.Char.{is_ascii_digit};
 ghost use Rattle.field_text.specs.BlanksGrammar.{is_blank};
 ghost use Rattle.dns_names.specs.TextParts.{decimal_value};
 ghost use Rattle.svcb_text.specs.StringGrammar.{is_raw, is_escapable};
-ghost use Rattle.svcb_text.specs.StringReading.{token_at, token_at_end, escape_at, decimal_at, is_decimal, is_end};
+ghost use Rattle.dns_names.specs.TextReading.{is_decimal};
+ghost use Rattle.svcb_text.specs.StringReading.{token_at, token_at_end, escape_at, decimal_at, is_end};
 
 use alt_base::{contiguous_value_table, quoted_value_table};
 

@@ -108,16 +108,7 @@ fn mandatory_keys(rt: HostRuntime) -> Result<(), Fail> {
     assert_eq!(&rt; found, wanted);
     let found = escaped(alloc, 0, b"ipv4hint")?;
     assert_eq!(&rt; found, None);
-    refuses(&rt, alloc, 0, b"")?;
-    refuses(&rt, alloc, 0, b",")?;
-    refuses(&rt, alloc, 0, b"alpn,")?;
-    refuses(&rt, alloc, 0, b",alpn")?;
-    refuses(&rt, alloc, 0, b"alpn, port")?;
-    refuses(&rt, alloc, 0, b"mandatory")?;
-    refuses(&rt, alloc, 0, b"alpn,mandatory")?;
-    refuses(&rt, alloc, 0, b"alpn,port,alpn")?;
-    refuses(&rt, alloc, 0, b"key7,key7")?;
-    refuses(&rt, alloc, 0, b"alpn,key1")
+    Ok(())
 }
 
 #[test]
@@ -135,15 +126,7 @@ fn protocol_ids(rt: HostRuntime) -> Result<(), Fail> {
     let found = escaped(alloc, 1, b"\\,")?;
     let wanted = alpn(alloc, &[b",".as_slice()])?;
     assert_eq!(&rt; found, wanted);
-    refuses(&rt, alloc, 1, b"")?;
-    refuses(&rt, alloc, 1, b",")?;
-    refuses(&rt, alloc, 1, b"h2,")?;
-    refuses(&rt, alloc, 1, b",h2")?;
-    refuses(&rt, alloc, 1, b"h2,,h3")?;
-    refuses(&rt, alloc, 1, b"h2\\")?;
-    refuses(&rt, alloc, 1, b"h2\\,\\")?;
-    refuses(&rt, alloc, 1, b"h\\2")?;
-    refuses(&rt, alloc, 1, b"h2\\044h3")
+    Ok(())
 }
 
 #[test]
@@ -172,7 +155,7 @@ fn no_default_protocol(rt: HostRuntime) -> Result<(), Fail> {
     let alloc = rt.alloc();
     let found = plain(alloc, 2, b"")?;
     assert_eq!(&rt; found, Some(Param::NoDefaultAlpn));
-    refuses(&rt, alloc, 2, b"0")
+    Ok(())
 }
 
 #[test]
@@ -192,14 +175,7 @@ fn ports(rt: HostRuntime) -> Result<(), Fail> {
     }
     let found = escaped(alloc, 3, b"53")?;
     assert_eq!(&rt; found, None);
-    refuses(&rt, alloc, 3, b"")?;
-    refuses(&rt, alloc, 3, b"65536")?;
-    refuses(&rt, alloc, 3, b"99999")?;
-    refuses(&rt, alloc, 3, b"000053")?;
-    refuses(&rt, alloc, 3, b"+53")?;
-    refuses(&rt, alloc, 3, b"-1")?;
-    refuses(&rt, alloc, 3, b"5 3")?;
-    refuses(&rt, alloc, 3, b"53,")
+    Ok(())
 }
 
 #[test]
@@ -210,14 +186,7 @@ fn hints_of_ipv4(rt: HostRuntime) -> Result<(), Fail> {
     assert_eq!(&rt; found, Some(Param::V4Hint(wanted)));
     let found = escaped(alloc, 4, b"192.0.2.1")?;
     assert_eq!(&rt; found, None);
-    refuses(&rt, alloc, 4, b"")?;
-    refuses(&rt, alloc, 4, b"192.0.2.1,")?;
-    refuses(&rt, alloc, 4, b",192.0.2.1")?;
-    refuses(&rt, alloc, 4, b"192.0.2")?;
-    refuses(&rt, alloc, 4, b"192.0.2.256")?;
-    refuses(&rt, alloc, 4, b"192.0.02.1")?;
-    refuses(&rt, alloc, 4, b"192.0.2.1, 192.0.2.2")?;
-    refuses(&rt, alloc, 4, b"::ffff:192.0.2.1")
+    Ok(())
 }
 
 #[test]
@@ -232,11 +201,7 @@ fn hints_of_ipv6(rt: HostRuntime) -> Result<(), Fail> {
     assert_eq!(&rt; found, Some(Param::V6Hint(wanted)));
     let found = escaped(alloc, 6, b"::1")?;
     assert_eq!(&rt; found, None);
-    refuses(&rt, alloc, 6, b"")?;
-    refuses(&rt, alloc, 6, b"::1,")?;
-    refuses(&rt, alloc, 6, b"[::1]")?;
-    refuses(&rt, alloc, 6, b"fe80::1%25eth0")?;
-    refuses(&rt, alloc, 6, b"192.0.2.1")
+    Ok(())
 }
 
 #[test]
@@ -250,6 +215,58 @@ fn other_values(rt: HostRuntime) -> Result<(), Fail> {
         let found = escaped(alloc, key, text)?;
         let value = ListOf::from_vec(text.to_vec(alloc)?);
         assert_eq!(&rt; found, Some(Param::Other { key, value }));
+    }
+    Ok(())
+}
+
+#[test]
+fn values_of_no_form(rt: HostRuntime) -> Result<(), Fail> {
+    // The key, and a string without a backslash that is no value of it.
+    let rows: [(u16, &[u8]); 41] = [
+        (0, b""),
+        (0, b","),
+        (0, b"alpn,"),
+        (0, b",alpn"),
+        (0, b"alpn, port"),
+        (0, b"mandatory"),
+        (0, b"alpn,mandatory"),
+        (0, b"alpn,port,alpn"),
+        (0, b"key7,key7"),
+        (0, b"alpn,key1"),
+        (1, b""),
+        (1, b","),
+        (1, b"h2,"),
+        (1, b",h2"),
+        (1, b"h2,,h3"),
+        (1, b"h2\\"),
+        (1, b"h2\\,\\"),
+        (1, b"h\\2"),
+        (1, b"h2\\044h3"),
+        (2, b"0"),
+        (3, b""),
+        (3, b"65536"),
+        (3, b"99999"),
+        (3, b"000053"),
+        (3, b"+53"),
+        (3, b"-1"),
+        (3, b"5 3"),
+        (3, b"53,"),
+        (4, b""),
+        (4, b"192.0.2.1,"),
+        (4, b",192.0.2.1"),
+        (4, b"192.0.2"),
+        (4, b"192.0.2.256"),
+        (4, b"192.0.02.1"),
+        (4, b"192.0.2.1, 192.0.2.2"),
+        (4, b"::ffff:192.0.2.1"),
+        (6, b""),
+        (6, b"::1,"),
+        (6, b"[::1]"),
+        (6, b"fe80::1%25eth0"),
+        (6, b"192.0.2.1"),
+    ];
+    for (key, text) in rows {
+        refuses(&rt, rt.alloc(), key, text)?;
     }
     Ok(())
 }

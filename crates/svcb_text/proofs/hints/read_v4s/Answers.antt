@@ -3,7 +3,7 @@ use Rattle.std.proofs.lemmas.Iterator.Splits.{YieldsList-from_slice_split}
 use Rattle.std.proofs.lemmas.Iterator.Consumers.{YieldsList-turn, YieldsList-end}
 use Rattle.std.proofs.lemmas.List.{length_push, drop_all}
 use Rattle.svcb_text.specs.ValueReading.{items_of, read_v4}
-use Rattle.svcb_text.proofs.CommaItems.{next_item}
+use Rattle.alt_base.proofs.Lists.{next_item}
 use Rattle.svcb_text.proofs.AddressLists.{IsSoFar, at_start, one_more, no_address, at_last}
 use Rattle.svcb_text.proofs.hints.read_v4s.Goals as goal
 

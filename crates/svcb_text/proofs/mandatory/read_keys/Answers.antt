@@ -3,7 +3,7 @@ use Rattle.std.proofs.lemmas.Iterator.Splits.{YieldsList-from_slice_split}
 use Rattle.std.proofs.lemmas.Iterator.Consumers.{YieldsList-turn, YieldsList-end}
 use Rattle.std.proofs.lemmas.List.{length_push, drop_all}
 use Rattle.svcb_text.specs.ValueReading.{items_of}
-use Rattle.svcb_text.proofs.CommaItems.{next_item}
+use Rattle.alt_base.proofs.Lists.{next_item}
 use Rattle.svcb_text.proofs.KeySets.{IsSoFar, no_key, key_zero, key_again, key_on, key_end}
 use Rattle.svcb_text.proofs.mandatory.read_keys.Goals as goal
 

@@ -1,5 +1,6 @@
-use Rattle.svcb_text.proofs.StringLaws.{string_spells, string_refuses, string_read, string_refused}
+use Rattle.svcb_text.proofs.StringLaws.{string_spells, string_refuses, string_refused}
 use Rattle.svcb_text.proofs.string_laws.strings_are_read.Goals as goal
+use Rattle.svcb_text.proofs.StringSpelled.{string_read}
 
 pub returns-clause-ok : goal.returns-clause-ok
 returns-clause-ok c = λ x value count e. string_spells x value count e
