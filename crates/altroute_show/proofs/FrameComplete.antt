@@ -10,9 +10,7 @@ use Rattle.altroute_show.specs.Seen.{Seen}
 use Rattle.altroute_show.specs.FrameOutcome.{AtTooLarge, AtUnfinished, AtLongInput, limited_outcome, frame_outcome}
 use Rattle.altroute_show.specs.FrameEnds.{FrameEnds, AreComplete}
 use Rattle.altroute_show.proofs.FrameAnswers.{never_long}
-
-some_none : {X : Type 0} (x : X) (o : Option X) → o ≡ Some x → o ≡ None → ⊥
-some_none x o some none = let e : Some x ≡ None = sym some ∙ none in cc
+use Rattle.alt_base.proofs.Variants.{some_none}
 
 pub take_front : (n : ℕ) (xs ys : List ℕ) → (t : List ℕ) × (take n (xs ++ ys) ≡ take n xs ++ t)
 take_front zero xs ys = ([], refl)

@@ -7,3 +7,6 @@ mod FrameAnswers
 mod FrameRuns
 mod FrameComplete
 mod FrameStays
+mod InputTexts
+mod RecordBytes
+mod WholeAnswers

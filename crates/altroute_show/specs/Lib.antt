@@ -3,6 +3,8 @@ pub mod Seen
 pub mod Ends
 pub mod Causes
 pub mod Given
+pub mod InputTexts
+pub mod Answers
 pub mod RecordJson
 pub mod WholeInput
 pub mod FrameLines

@@ -17,6 +17,7 @@ mod status;
 mod texts;
 mod whole_command;
 mod whole_input;
+mod whole_laws;
 mod whole_run;
 mod write_https;
 
@@ -27,4 +28,5 @@ pub use record_form::RecordForm;
 pub use status::Status;
 pub use texts::{put, put_number};
 pub use whole_command::WholeCommand;
+pub use whole_laws::{records_are_shown, records_are_written, values_are_shown};
 pub use whole_run::run_whole;
