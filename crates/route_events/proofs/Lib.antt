@@ -1,5 +1,12 @@
 pub mod Lists
+pub mod Later
+pub mod LiveInWords
+pub mod FailuresInWords
+pub mod Candidates
+pub mod Apart
+pub mod Elsewhere
 pub mod Sound
+pub mod OutstandingInWords
 pub mod Quiet
 pub mod Settles
 pub mod Runs

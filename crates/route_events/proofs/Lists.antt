@@ -1,23 +1,12 @@
 -- Membership in lists, and lists whose items have numbers of their own.
-use Rattle.std.proofs.Common.{◌≡◌, ◌⊎◌, inl, inr, ℕ, ◌<◌, suc, zero, Bool, true, false, cond, ◌||◌, nat_eq, List, [], ◌∷◌, ◌++◌, Some, is_some, filter, find, All, Any, ◌&&◌, not, refl, ap, sym, ◌∙◌, subst, arith, true≢false}
+use Rattle.std.proofs.Common.{◌≡◌, ◌⊎◌, inl, inr, ℕ, ◌<◌, suc, zero, Bool, true, false, cond, ◌||◌, nat_eq, List, [], ◌∷◌, ◌++◌, length, slice_index_or, Some, is_some, filter, find, All, Any, ◌&&◌, refl, ap, sym, ◌∙◌, subst, arith, true≢false}
 use Rattle.std.specs.List.{list_any}
+use Rattle.alt_base.proofs.Booleans.{contradicts}
+use Rattle.alt_base.proofs.Numbers.{eq_self}
 
 abbrev pub IsIn : {X : Type 0} → X → List X → Type 0
 IsIn x [] = ⊥
 IsIn x (y ∷ ys) = (x ≡ y) ⊎ IsIn x ys
-
-pub true_or_false : (b : Bool) → (b ≡ true) ⊎ (b ≡ false)
-true_or_false true = inl refl
-true_or_false false = inr refl
-
-pub contradicts : {A : Type 0} (b : Bool) → b ≡ true → b ≡ false → A
-contradicts b t f = absurd (true≢false (sym t ∙ f))
-
-pub same_number : (a b : ℕ) → nat_eq a b ≡ true → a ≡ b
-same_number a b e = grind arith
-
-pub nat_eq-self : (n : ℕ) → nat_eq n n ≡ true
-nat_eq-self n = grind arith
 
 pub nat_eq-flip : (a b : ℕ) → nat_eq a b ≡ nat_eq b a
 nat_eq-flip a b = grind arith
@@ -113,7 +102,7 @@ apart_append_one {X} f (z ∷ zs) x h other = (λ y found. by_place y (in_append
 -- the item is found by its number
 pub find_apart : {X : Type 0} (f : X → ℕ) (xs : List X) (x : X) → AreApart f xs → IsIn x xs → find (λ y. nat_eq (f y) (f x)) xs ≡ Some x
 find_apart f [] x h none = absurd none
-find_apart {X} f (y ∷ ys) x h (inl same) = subst (λ z. cond (nat_eq (f z) (f x)) (Some z) (find (λ y. nat_eq (f y) (f x)) ys) ≡ Some x) same (rw (nat_eq-self (f x)) refl)
+find_apart {X} f (y ∷ ys) x h (inl same) = subst (λ z. cond (nat_eq (f z) (f x)) (Some z) (find (λ y. nat_eq (f y) (f x)) ys) ≡ Some x) same (rw (eq_self (f x)) refl)
 find_apart {X} f (y ∷ ys) x h (inr later) = rw (h.0 x later) (find_apart f ys x h.1 later)
 
 pub all_from_in : {X : Type 0} (P : X → Type 0) (xs : List X) → ((x : X) → IsIn x xs → P x) → All P xs
@@ -148,6 +137,23 @@ any_from_in P x [] h p = absurd h
 any_from_in P x (y ∷ ys) (inl same) p = (zero, x, omega arith, sym same, p)
 any_from_in P x (y ∷ ys) (inr later) p = let found = any_from_in P x ys later p in (suc found.0, found.1, omega (arith, found.2), found.3, found.4)
 
+pub in_from_any : {X : Type 0} (x : X) (xs : List X) → Any (λ y. y ≡ x) xs → IsIn x xs
+in_from_any {X} x xs found = at_place xs found.0 found.1 found.2 found.3 found.4
+  where
+    at_place : (ys : List X) (k : ℕ) (y : X) → k < length ys → slice_index_or ys k y ≡ y → y ≡ x → IsIn x ys
+    at_place [] k y within here same = absurd (omega arith)
+    at_place (z ∷ zs) zero y within here same = inl (sym (here ∙ same))
+    at_place (z ∷ zs) (suc k) y within here same = inr (at_place zs k y (omega arith) here same)
+
+pub in_append : {X : Type 0} (x y : X) (xs : List X) → IsIn x xs → IsIn x (xs ++ y ∷ [])
+in_append x y [] h = absurd h
+in_append x y (z ∷ zs) (inl same) = inl same
+in_append x y (z ∷ zs) (inr later) = inr (in_append x y zs later)
+
+pub in_end : {X : Type 0} (x : X) (xs : List X) → IsIn x (xs ++ x ∷ [])
+in_end x [] = inl refl
+in_end x (z ∷ zs) = inr (in_end x zs)
+
 -- a test of one more item at the end
 pub filter_end : {X : Type 0} (p : X → Bool) (xs : List X) (x : X) → filter p (xs ++ x ∷ []) ≡ filter p xs ++ cond (p x) (x ∷ []) []
 filter_end p [] x = by_test (p x)
@@ -169,18 +175,21 @@ filter_twice {X} p q (x ∷ xs) = by_test (q x) (filter_twice p q xs)
     by_test true rest = ap (λ zs. cond (p x) (x ∷ zs) zs) rest
     by_test false rest = rest
 
-pub not_true : (b : Bool) → not b ≡ true → b ≡ false
-not_true true e = absurd (true≢false (sym e))
-not_true false e = refl
+-- two tests pass in either order
+pub filter_swap : {X : Type 0} (p q : X → Bool) (xs : List X) → filter p (filter q xs) ≡ filter q (filter p xs)
+filter_swap p q xs = filter_twice p q xs ∙ filter_same (λ x. q x && p x) (λ x. p x && q x) xs (λ x. either_order (q x) (p x)) ∙ sym (filter_twice q p xs)
+  where
+    either_order : (a b : Bool) → (a && b) ≡ (b && a)
+    either_order true true = refl
+    either_order true false = refl
+    either_order false true = refl
+    either_order false false = refl
 
-pub not_false : (b : Bool) → not b ≡ false → b ≡ true
-not_false true e = refl
-not_false false e = absurd (true≢false e)
-
-pub or_left : (a b : Bool) → a ≡ true → (a || b) ≡ true
-or_left true b e = refl
-or_left false b e = absurd (true≢false (sym e))
-
-pub or_right : (a b : Bool) → b ≡ true → (a || b) ≡ true
-or_right true b e = refl
-or_right false b e = e
+-- a test behind one that passes wherever it does
+pub filter_again : {X : Type 0} (p q : X → Bool) (xs : List X) → ((x : X) → p x ≡ true → q x ≡ true) → filter p (filter q xs) ≡ filter p xs
+filter_again p q xs h = filter_twice p q xs ∙ filter_same (λ x. q x && p x) p xs (λ x. by_tests (q x) (p x) (h x))
+  where
+    by_tests : (a b : Bool) → (b ≡ true → a ≡ true) → (a && b) ≡ b
+    by_tests true b e = refl
+    by_tests false true e = absurd (true≢false (sym (e refl)))
+    by_tests false false e = refl

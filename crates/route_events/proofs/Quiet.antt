@@ -2,13 +2,9 @@
 -- lemmas on each action say that the definitions have them.
 use Rattle.std.proofs.Common.{◌≡◌, ◌⊎◌, inl, inr, ℕ, ◌+◌, Bool, true, false, cond, not, ◌&&◌, nat_eq, List, [], ◌∷◌, ◌++◌, length, Option, Some, None, is_some, filter, refl, ap, sym, ◌∙◌, arith, true≢false}
 use Rattle.std.specs.List.{list_any}
-use Rattle.std.specs.Cmp.Lexicographic.{pointwise}
 use Rattle.std.proofs.lemmas.List.Folds.{list_any-append}
-use Rattle.origin_values.specs.Equality.{origin_eq, scheme_eq, host_eq}
-use Rattle.origin_values.specs.declared.scheme.Scheme.{Scheme}
-use Rattle.origin_values.specs.declared.scheme.Scheme.TheVariants.{Http, Https}
+use Rattle.origin_values.specs.Equality.{host_eq}
 use Rattle.origin_values.specs.declared.host.Host.{Host}
-use Rattle.origin_values.specs.declared.host.Host.TheVariants.{Name, V4, V6}
 use Rattle.origin_values.specs.declared.origin.Origin.{Origin}
 use Rattle.std.specs.Option.{option_eq}
 use Rattle.altsvc_grammar.specs.Keys.{key_eq}
@@ -28,8 +24,12 @@ use Rattle.route_events.specs.Authority.{route_eq, is_authoritative, has_basis}
 use Rattle.route_events.specs.Backoff.{is_on}
 use Rattle.route_events.specs.Routes.{routes, is_usable, usable_routes, has_pending}
 use Rattle.route_events.specs.Dispatch.{is_by_alternative, carriers, free_carriers, first_of, or_else, best, first_alternative, decide, dispatch}
-use Rattle.route_events.proofs.Lists.{IsIn, nat_eq-self, in_filter, filter_same, filter_fewer, filter_end, list_any_more, or_left, or_right}
+use Rattle.route_events.proofs.Lists.{IsIn, in_filter, filter_same, filter_fewer, filter_end, list_any_more}
 use Rattle.route_events.proofs.Sound.{Sound}
+use Rattle.alt_base.proofs.Numbers.{eq_self}
+use Rattle.std.proofs.lemmas.Bool.{or_left, or_right}
+use Rattle.alt_base.proofs.Lists.{text_self}
+use Rattle.origin_values.proofs.Equal.{host_self, origin_self}
 
 pub record Quiet (before after : Journal) (now : ℕ) : Type 0 where
   pub moment_same : newest_moment after ≡ newest_moment before
@@ -197,29 +197,12 @@ quiet_open j now n o r = record {
   pending_stays = λ p s h. ap (list_any (is_on p s)) (pending_more j n o r) ∙ list_any-append (is_on p s) (pending j) (cond (not (has_ended j n)) (record { number = n; origin = o; route = r } ∷ []) []) ∙ or_left _ _ h;
 }
 
--- values that are their own
-pub text_same : (xs : List ℕ) → pointwise nat_eq xs xs ≡ true
-text_same [] = refl
-text_same (x ∷ xs) = rw (nat_eq-self x) (text_same xs)
-
-pub host_eq-self : (h : Host) → host_eq h h ≡ true
-host_eq-self (Name name) = text_same name
-host_eq-self (V4 bytes) = text_same bytes
-host_eq-self (V6 bytes) = text_same bytes
-
-pub origin_eq-self : (o : Origin) → origin_eq o o ≡ true
-origin_eq-self o = rw (scheme_same o.scheme, host_eq-self o.host, nat_eq-self o.port) refl
-  where
-    scheme_same : (s : Scheme) → scheme_eq s s ≡ true
-    scheme_same Http = refl
-    scheme_same Https = refl
-
 pub key_eq-self : (key : AltKey) → key_eq key key ≡ true
-key_eq-self key = rw (text_same key.proto, optional_same key.host, nat_eq-self key.port) refl
+key_eq-self key = rw (text_self key.proto, optional_same key.host, eq_self key.port) refl
   where
     optional_same : (h : Option Host) → option_eq host_eq h h ≡ true
     optional_same None = refl
-    optional_same (Some h) = host_eq-self h
+    optional_same (Some h) = host_self h
 
 pub route_eq-self : (r : Route) → route_eq r r ≡ true
 route_eq-self Direct = refl
@@ -231,7 +214,7 @@ opened_pending j o r sound =
     let n : ℕ = length (attempts j) + 1 in
     let fresh : has_ended j n ≡ false = sound.not_ended n (omega arith) in
     let added : List Attempt = cond (not (has_ended j n)) (record { number = n; origin = o; route = r } ∷ []) [] in
-    let new : list_any (is_on o r) added ≡ true = rw (fresh, origin_eq-self o, route_eq-self r) refl in
+    let new : list_any (is_on o r) added ≡ true = rw (fresh, origin_self o, route_eq-self r) refl in
     ap (list_any (is_on o r)) (pending_more j n o r) ∙ list_any-append (is_on o r) (pending j) added ∙ or_right (list_any (is_on o r) (pending j)) (list_any (is_on o r) added) new
 
 -- time that passes within one moment

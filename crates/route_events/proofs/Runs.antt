@@ -11,7 +11,7 @@ use Rattle.route_events.specs.declared.action.Action.{Action}
 use Rattle.route_events.specs.declared.action.Action.TheVariants.{Lost, Field}
 use Rattle.route_events.specs.declared.refusal.StepRefusal.{StepRefusal}
 use Rattle.route_events.specs.declared.request.Request.{Request}
-use Rattle.route_events.specs.Journal.{Happened, Taken, Journal, newest_moment}
+use Rattle.route_events.specs.Journal.{Happened, Cut, Taken, Journal, newest_moment}
 use Rattle.route_events.specs.Requests.{requests, request_of, standing, waits, waiting}
 use Rattle.route_events.specs.Connections.{outstanding}
 use Rattle.route_events.specs.Authority.{is_https}
@@ -112,6 +112,7 @@ run_gives j (e ∷ es) was = by_refusal (refusal j e.0 e.1) refl (λ free. run_g
 pub at_split : (P : Journal → Action → Type 0) (newer before : Journal) (a : Action) → EachAction P (newer ++ Taken a ∷ before) → P before a
 at_split P [] before a h = h.0
 at_split P (Happened now fact handed_in ∷ newer) before a h = at_split P newer before a h
+at_split P (Cut now conn length ∷ newer) before a h = at_split P newer before a h
 at_split P (Taken b ∷ newer) before a h = at_split P newer before a h.1
 
 pub allowed_at : (j newer before : Journal) (a : Action) → IsRun j → j ≡ newer ++ Taken a ∷ before → IsAllowed before a

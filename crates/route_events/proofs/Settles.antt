@@ -17,9 +17,12 @@ use Rattle.route_events.specs.Routes.{routes, is_usable, usable_routes, has_pend
 use Rattle.route_events.specs.Dispatch.{carriers, free_carriers, best, send, opening, opened_beside, is_in_use, first_alternative, decide, dispatch}
 use Rattle.route_events.specs.Step.{with_actions, settle}
 use Rattle.route_events.specs.Headline.{MaySend, MayRefuse, MayWait, IsAllowed, EachAction}
-use Rattle.route_events.proofs.Lists.{IsIn, AreApart, contradicts, nat_eq-self, in_filter, find_apart, none_left, some_in, any_from_in, all_from_in, not_true, not_false}
+use Rattle.route_events.proofs.Lists.{IsIn, AreApart, in_filter, find_apart, none_left, some_in, any_from_in, all_from_in}
 use Rattle.route_events.proofs.Sound.{Sound, sound_send, sound_open, sound_refuse, sound_lost, sound_alternatives, sound_field}
 use Rattle.route_events.proofs.Quiet.{Quiet, quiet_same, quiet_twice, quiet_send, quiet_open, quiet_refuse, usable_routes_same, none_freed, best_none, none_best, best_in, is_none_left, resting, rested, rests_still, opened_pending}
+use Rattle.alt_base.proofs.Booleans.{contradicts}
+use Rattle.alt_base.proofs.Numbers.{eq_self}
+use Rattle.std.proofs.lemmas.Bool.{not-true, not-false}
 
 -- what settling some requests makes of a journal
 pub record Settles (before after : Journal) (now : ℕ) (qs : List Request) : Type 0 where
@@ -61,7 +64,7 @@ moved_fewer n q to w not_waiting h = by_test (nat_eq q n) h
     by_test false h = h
 
 moved_self : {A : Type 0} (q : ℕ) (to : Standing) (w : Option Standing) → waits (Some to) ≡ false → waits (option_map_or Some (cond (nat_eq q q) (Some to) None) w) ≡ true → A
-moved_self q to w not_waiting h = contradicts (waits (Some to)) (subst (λ b. waits (option_map_or Some (cond b (Some to) None) w) ≡ true) (nat_eq-self q) h) not_waiting
+moved_self q to w not_waiting h = contradicts (waits (Some to)) (subst (λ b. waits (option_map_or Some (cond b (Some to) None) w) ≡ true) (eq_self q) h) not_waiting
 
 moved_other : (n q : ℕ) (to : Standing) (w : Option Standing) → nat_eq q n ≡ false → option_map_or Some (cond (nat_eq q n) (Some to) None) w ≡ w
 moved_other n q to w e = rw e refl
@@ -84,7 +87,7 @@ pub free_of : (j : Journal) (now : ℕ) (o : Origin) (c : Connection) → IsIn c
 free_of j now o c found =
     let carrier = in_filter (λ (c : Connection). not (is_busy j c)) c (carriers j o now) found in
     let made = in_filter (λ (c : Connection). is_authoritative j c o now) c (connections j) carrier.0 in
-    record { there = made.0; authority = made.1; idle = not_true (is_busy j c) carrier.1 }
+    record { there = made.0; authority = made.1; idle = not-true (is_busy j c) carrier.1 }
 
 may_send : (j : Journal) (now : ℕ) (q : Request) (c : Connection) → Sound j → newest_moment j ≡ now → IsIn q (requests j) → IsFree j now q.origin c → MaySend j q.number c.number
 may_send j now q c sound moment asked free = record {
@@ -251,7 +254,7 @@ may_wait j q rests =
     first_busy (c ∷ cs) is none some =
         let there : IsIn c (carriers j q.origin now) = subst (IsIn c) (sym is) (inl refl) in
         let made = in_filter (λ (c : Connection). is_authoritative j c q.origin now) c (connections j) there in
-        inr (any_from_in (λ c. (is_authoritative j c q.origin now ≡ true) × (is_busy j c ≡ true)) c (connections j) made.0 (made.1, not_false (is_busy j c) (none_left (λ c. not (is_busy j c)) (c ∷ cs) none c (inl refl))))
+        inr (any_from_in (λ c. (is_authoritative j c q.origin now ≡ true) × (is_busy j c ≡ true)) c (connections j) made.0 (made.1, not-false (is_busy j c) (none_left (λ c. not (is_busy j c)) (c ∷ cs) none c (inl refl))))
 
     by_reason : filter (λ c. not (is_busy j c)) (carriers j q.origin now) ≡ [] → ((list_any (has_pending j q.origin) (usable_routes j q now) ≡ true) ⊎ ((usable_routes j q now ≡ []) × (is_none_left (carriers j q.origin now) ≡ false))) → MayWait j q
     by_reason none (inl some) = awaited some

@@ -20,11 +20,14 @@ use Rattle.route_events.specs.declared.refusal.StepRefusal.{StepRefusal}
 use Rattle.route_events.specs.declared.refusal.StepRefusal.TheVariants.{NumberNotAbove, NoSuchAttempt, NoSuchConn}
 use Rattle.route_events.specs.Journal.{Happened, Taken, Journal, newest_moment, step_count, with_end}
 use Rattle.route_events.specs.Attempts.{attempts, has_ended, pending, pending_attempt, is_pending}
-use Rattle.route_events.specs.Requests.{Standing, OutOn, Over, requests, newest_number, standing, waits}
+use Rattle.route_events.specs.Requests.{Standing, OutOn, Over, requests, newest_number, standing, waits, after_status}
 use Rattle.route_events.specs.Connections.{connections, closes, is_open, open_connections, is_open_number, outstanding, send_count, without}
 use Rattle.std.specs.List.{list_any}
 use Rattle.route_events.specs.Step.{refusal}
-use Rattle.route_events.proofs.Lists.{IsIn, AreApart, contradicts, same_number, nat_eq-self, nat_eq-below, in_append_one, apart_append_one, in_filter, find_in, or_right, not_true}
+use Rattle.route_events.proofs.Lists.{IsIn, AreApart, nat_eq-below, in_append_one, apart_append_one, in_filter, find_in}
+use Rattle.alt_base.proofs.Booleans.{contradicts, second_of_neither}
+use Rattle.alt_base.proofs.Numbers.{true_eq, eq_self}
+use Rattle.std.proofs.lemmas.Bool.{not-true, or_right}
 
 pub record Sound (journal : Journal) : Type 0 where
   -- an attempt's number is among those that are counted, and no other one has ended
@@ -64,7 +67,7 @@ stays_out j q conn r to waiting out = by_test (nat_eq q r) refl
   where
     by_test : (b : Bool) → nat_eq q r ≡ b → option_map_or Some (cond b (Some to) None) (standing j r) ≡ Some (OutOn conn)
     by_test false e = out
-    by_test true e = contradicts (waits (standing j q)) waiting (ap waits (ap (standing j) (same_number q r e) ∙ out))
+    by_test true e = contradicts (waits (standing j q)) waiting (ap waits (ap (standing j) (true_eq q r e) ∙ out))
 
 pub sound_send : (j : Journal) (q c : ℕ) (s : Option ℕ) (u : Option (Host × ℕ)) → waits (standing j q) ≡ true → q ≤ newest_number j → has_ended j c ≡ true → Sound j → Sound (Taken (SendOn q c s u) ∷ j)
 sound_send j q c s u waiting known used sound = record {
@@ -82,7 +85,7 @@ sound_send j q c s u waiting known used sound = record {
   where
     by_place : (conn r : ℕ) → nat_eq c conn ≡ true → IsIn r (outstanding j conn) ⊎ (r ≡ q) → option_map_or Some (cond (nat_eq q r) (Some (OutOn c)) None) (standing j r) ≡ Some (OutOn conn)
     by_place conn r e (inl old) = stays_out j q conn r (OutOn c) waiting (sound.out_stands conn r old)
-    by_place conn r e (inr new) = rw (new, nat_eq-self q, same_number c conn e) refl
+    by_place conn r e (inr new) = rw (new, eq_self q, true_eq c conn e) refl
 
     by_conn : (conn r : ℕ) (b : Bool) → nat_eq c conn ≡ b → IsIn r (cond b (outstanding j conn ++ q ∷ []) (outstanding j conn)) → option_map_or Some (cond (nat_eq q r) (Some (OutOn c)) None) (standing j r) ≡ Some (OutOn conn)
     by_conn conn r false e found = stays_out j q conn r (OutOn c) waiting (sound.out_stands conn r found)
@@ -98,11 +101,11 @@ sound_send j q c s u waiting known used sound = record {
 
     out_by_conn : (n : ℕ) → has_ended j n ≡ false → (b : Bool) → nat_eq c n ≡ b → cond b (outstanding j n ++ q ∷ []) (outstanding j n) ≡ []
     out_by_conn n h false e = (sound.unused n h).0
-    out_by_conn n h true e = contradicts (has_ended j c) used (ap (has_ended j) (same_number c n e) ∙ h)
+    out_by_conn n h true e = contradicts (has_ended j c) used (ap (has_ended j) (true_eq c n e) ∙ h)
 
     sends_by_conn : (n : ℕ) → has_ended j n ≡ false → (b : Bool) → nat_eq c n ≡ b → cond b (send_count j n + 1) (send_count j n) ≡ 0
     sends_by_conn n h false e = (sound.unused n h).1
-    sends_by_conn n h true e = contradicts (has_ended j c) used (ap (has_ended j) (same_number c n e) ∙ h)
+    sends_by_conn n h true e = contradicts (has_ended j c) used (ap (has_ended j) (true_eq c n e) ∙ h)
 
 pub sound_refuse : (j : Journal) (q : ℕ) → waits (standing j q) ≡ true → Sound j → Sound (Taken (Refuse q) ∷ j)
 sound_refuse j q waiting sound = record {
@@ -141,6 +144,19 @@ sound_open j o r sound =
     by_place b (inl old) = omega (arith, sound.counted b old, length-append (attempts j) (a ∷ []))
     by_place b (inr new) = omega (arith, ap (λ (x : Attempt). x.number) new, length-append (attempts j) (a ∷ []))
 
+-- where a request isn't outstanding any more, the others still are
+left_out : (j : Journal) (q conn r : ℕ) (to : Standing) → Sound j → IsIn r (without q (outstanding j conn)) → option_map_or Some (cond (nat_eq q r) (Some to) None) (standing j r) ≡ Some (OutOn conn)
+left_out j q conn r to sound found =
+    let still = in_filter (λ n. not (nat_eq n q)) r (outstanding j conn) found in
+    by_test (nat_eq q r) (flipped q r ∙ not-true (nat_eq r q) still.1) (sound.out_stands conn r still.0)
+  where
+    flipped : (a b : ℕ) → nat_eq a b ≡ nat_eq b a
+    flipped a b = grind arith
+
+    by_test : (b : Bool) → b ≡ false → standing j r ≡ Some (OutOn conn) → option_map_or Some (cond b (Some to) None) (standing j r) ≡ Some (OutOn conn)
+    by_test false e out = out
+    by_test true e out = absurd (true≢false e)
+
 pub sound_lost : (j : Journal) (q : ℕ) → Sound j → Sound (Taken (Lost q) ∷ j)
 sound_lost j q sound = record {
   counted = sound.counted;
@@ -150,19 +166,10 @@ sound_lost j q sound = record {
   newest = sound.newest;
   connections_apart = sound.connections_apart;
   ended = sound.ended;
-  out_stands = λ conn r found.
-      let still = in_filter (λ n. not (nat_eq n q)) r (outstanding j conn) found in
-      by_test conn r (nat_eq q r) (nat_eq-flipped q r ∙ not_true (nat_eq r q) still.1) (sound.out_stands conn r still.0);
+  out_stands = λ conn r found. left_out j q conn r Over sound found;
   out_known = λ conn r found. sound.out_known conn r (in_filter (λ n. not (nat_eq n q)) r (outstanding j conn) found).0;
   unused = λ n h. (ap (without q) (sound.unused n h).0, (sound.unused n h).1, (sound.unused n h).2);
 }
-  where
-    nat_eq-flipped : (a b : ℕ) → nat_eq a b ≡ nat_eq b a
-    nat_eq-flipped a b = grind arith
-
-    by_test : (conn r : ℕ) (b : Bool) → b ≡ false → standing j r ≡ Some (OutOn conn) → option_map_or Some (cond b (Some Over) None) (standing j r) ≡ Some (OutOn conn)
-    by_test conn r false e out = out
-    by_test conn r true e out = absurd (true≢false e)
 
 -- what a value of alternatives changes is none of this
 pub sound_alternatives : (j : Journal) (o : Origin) (value : AltSvc) → Sound j → Sound (Taken (Alternatives o value) ∷ j)
@@ -246,10 +253,6 @@ sound_request j now n o handed_in above sound =
     by_place r (inl old) = omega (arith, above, sound.newest r old)
     by_place r (inr new) = omega (arith, ap (λ (x : Request). x.number) new)
 
-or_false : (a b : Bool) → (a || b) ≡ false → b ≡ false
-or_false true b e = absurd (true≢false e)
-or_false false b e = e
-
 -- a pending attempt was started, and hasn't ended
 pub record IsStarted (j : Journal) (m : ℕ) : Type 0 where
   pub attempt : Attempt
@@ -266,8 +269,8 @@ started_of j m pend = by_found (pending_attempt j m) refl pend
     by_found (Some a) e some =
         let there = find_in (λ (a : Attempt). nat_eq a.number m) (pending j) a e in
         let passed = in_filter (λ (a : Attempt). not (has_ended j a.number)) a (attempts j) there.0 in
-        let same : a.number ≡ m = same_number a.number m there.1 in
-        record { attempt = a; found = e; started = passed.0; numbered = same; going = subst (λ n. has_ended j n ≡ false) same (not_true (has_ended j a.number) passed.1) }
+        let same : a.number ≡ m = true_eq a.number m there.1 in
+        record { attempt = a; found = e; started = passed.0; numbered = same; going = subst (λ n. has_ended j n ≡ false) same (not-true (has_ended j a.number) passed.1) }
 
 -- an attempt that is pending is counted
 above_other : (j : Journal) (m : ℕ) → IsStarted j m → Sound j → (n : ℕ) → length (attempts j) < n → (nat_eq m n || has_ended j n) ≡ false
@@ -287,7 +290,7 @@ sound_failed j now m handed_in pend sound = record {
   ended = λ c found. or_right (nat_eq m c.number) (has_ended j c.number) (sound.ended c found);
   out_stands = sound.out_stands;
   out_known = sound.out_known;
-  unused = λ n h. sound.unused n (or_false (nat_eq m n) (has_ended j n) h);
+  unused = λ n h. sound.unused n (second_of_neither (nat_eq m n) (has_ended j n) h);
 }
 
 pub sound_opened : (j : Journal) (now m : ℕ) (p : Proto) (d : Addr) (port : ℕ) (names : List CertName) (handed_in : Bool) → is_pending j m ≡ true → Sound j → Sound (Happened now (fact.Opened m p d port names) handed_in ∷ j)
@@ -303,7 +306,7 @@ sound_opened j now m p d port names handed_in pend sound =
       ended = made.1;
       out_stands = sound.out_stands;
       out_known = sound.out_known;
-      unused = λ n h. sound.unused n (or_false (nat_eq m n) (has_ended j n) h);
+      unused = λ n h. sound.unused n (second_of_neither (nat_eq m n) (has_ended j n) h);
     }
   where
     is : IsStarted j m
@@ -317,11 +320,11 @@ sound_opened j now m p d port names handed_in pend sound =
       where
         by_test : (b : Bool) → nat_eq c.number m ≡ b → b ≡ false
         by_test false e = refl
-        by_test true e = contradicts (has_ended j m) (subst (λ k. has_ended j k ≡ true) (same_number c.number m e) (sound.ended c found)) is.going
+        by_test true e = contradicts (has_ended j m) (subst (λ k. has_ended j k ≡ true) (true_eq c.number m e) (sound.ended c found)) is.going
 
     by_place : (a : Attempt) (c : Connection) → IsIn c (connections j) ⊎ (c ≡ connection a) → (nat_eq m c.number || has_ended j c.number) ≡ true
     by_place a c (inl old) = or_right (nat_eq m c.number) (has_ended j c.number) (sound.ended c old)
-    by_place a c (inr new) = subst (λ (x : Connection). (nat_eq m x.number || has_ended j x.number) ≡ true) (sym new) (rw (nat_eq-self m) refl)
+    by_place a c (inr new) = subst (λ (x : Connection). (nat_eq m x.number || has_ended j x.number) ≡ true) (sym new) (rw (eq_self m) refl)
 
     by_attempt : (w : Option Attempt) → AreApart (λ (c : Connection). c.number) (with_end (connections j) (option_map connection w)) × ((c : Connection) → IsIn c (with_end (connections j) (option_map connection w)) → (nat_eq m c.number || has_ended j c.number) ≡ true)
     by_attempt None = (sound.connections_apart, λ c found. or_right (nat_eq m c.number) (has_ended j c.number) (sound.ended c found))
@@ -342,7 +345,7 @@ opened_of j c h = by_found (find (λ (x : Connection). nat_eq x.number c) (open_
     by_found None e some = absurd (true≢false (sym some))
     by_found (Some x) e some =
         let there = find_in (λ (x : Connection). nat_eq x.number c) (open_connections j) x e in
-        record { connection = x; found = e; there = there.0; made = (in_filter (is_open j) x (connections j) there.0).0; numbered = same_number x.number c there.1 }
+        record { connection = x; found = e; there = there.0; made = (in_filter (is_open j) x (connections j) there.0).0; numbered = true_eq x.number c there.1 }
 
 pub sound_closed : (j : Journal) (now c : ℕ) (handed_in : Bool) → is_open_number j c ≡ true → Sound j → Sound (Happened now (fact.Closed c) handed_in ∷ j)
 sound_closed j now c handed_in is_open_now sound = record {
@@ -363,7 +366,7 @@ sound_closed j now c handed_in is_open_now sound = record {
 
     by_test : (n : ℕ) → has_ended j n ≡ false → (b : Bool) → nat_eq c n ≡ b → (b || list_any (closes n) j) ≡ false
     by_test n h false e = (sound.unused n h).2
-    by_test n h true e = contradicts (has_ended j c) used (ap (has_ended j) (same_number c n e) ∙ h)
+    by_test n h true e = contradicts (has_ended j c) used (ap (has_ended j) (true_eq c n e) ∙ h)
 
 -- a request that is answered isn't outstanding any more
 pub sound_response : (j : Journal) (now q status age : ℕ) (altsvc : Option (List ℕ)) (handed_in : Bool) → Sound j → Sound (Happened now (fact.Response q status age altsvc) handed_in ∷ j)
@@ -377,7 +380,7 @@ sound_response j now q status age altsvc handed_in sound =
       newest = sound.newest;
       connections_apart = sound.connections_apart;
       ended = sound.ended;
-      out_stands = lost.out_stands;
+      out_stands = λ conn r found. left_out j q conn r (after_status status) sound found;
       out_known = lost.out_known;
       unused = lost.unused;
     }

@@ -1,5 +1,5 @@
 -- The alternatives of an origin (RFC 7838): which values were taken, and which alternatives are live.
-use Rattle.std.specs.Prelude.{ℕ, ◌+◌, ◌-◌, Bool, nat_lt, List, [], ◌∷◌, Some, if◌then◌else◌, unwrap_or, filter}
+use Rattle.std.specs.Prelude.{ℕ, ◌+◌, ◌-◌, Bool, nat_lt, List, [], ◌∷◌, Option, Some, None, if◌then◌else◌, unwrap_or, filter}
 use Rattle.std.specs.List.{list_any}
 use Rattle.origin_values.specs.Equality.{origin_eq}
 use Rattle.origin_values.specs.declared.origin.Origin.{Origin}
@@ -11,7 +11,7 @@ use Rattle.altsvc_grammar.specs.declared.alt_svc.AltSvc.TheVariants as value
 use Rattle.route_events.specs.declared.fact.Fact.{Fact}
 use Rattle.route_events.specs.declared.fact.Fact.TheVariants as fact
 use Rattle.route_events.specs.declared.action.Action.TheVariants as action
-use Rattle.route_events.specs.Journal.{Happened, Taken, Journal, of_fact, newest, newest_moment}
+use Rattle.route_events.specs.Journal.{Happened, Cut, Taken, Journal, of_fact, newest, newest_moment}
 
 -- the alternatives of a value: none, where it is `clear`
 abbrev pub alternatives_of : AltSvc → List Alt
@@ -45,6 +45,22 @@ left_by _ alts = alts
 abbrev pub live : Journal → Origin → ℕ → List Alt
 live [] o now = []
 live (Happened moment fact handed_in ∷ older) o now = left_by fact (live older o now)
+live (Cut moment conn length ∷ older) o now = live older o now
 live (Taken (action.Alternatives p value) ∷ older) o now =
     if origin_eq p o then filter (is_fresh (newest_moment older) (newest_age older) now) (alternatives_of value) else live older o now
 live (Taken _ ∷ older) o now = live older o now
+
+-- a value that was taken, with the moment and the age of the fact that brought it
+pub record Took : Type 0 where
+  pub value : AltSvc
+  pub moment : ℕ
+  pub age : ℕ
+
+-- the value that was taken last for an origin
+abbrev pub took : Journal → Origin → Option Took
+took [] o = None
+took (Happened moment fact handed_in ∷ older) o = took older o
+took (Cut moment conn length ∷ older) o = took older o
+took (Taken (action.Alternatives p value) ∷ older) o =
+    if origin_eq p o then Some (record { value = value; moment = newest_moment older; age = newest_age older }) else took older o
+took (Taken _ ∷ older) o = took older o

@@ -18,10 +18,12 @@ use Rattle.origin_values.specs.declared.proto.Proto.TheVariants.{H2, H3, Http11,
 use Rattle.route_events.specs.declared.route.Route.{Route}
 use Rattle.route_events.specs.declared.route.Route.TheVariants as route
 use Rattle.route_events.specs.declared.connection.Connection.{Connection}
+use Rattle.route_events.specs.declared.reach.Reach.{Reach}
 use Rattle.route_events.specs.declared.fact.Fact.TheVariants as fact
 use Rattle.route_events.specs.declared.action.Action.TheVariants as action
-use Rattle.route_events.specs.Journal.{Happened, Taken, Journal}
-use Rattle.route_events.specs.Connections.{is_open}
+use Rattle.route_events.specs.Journal.{Happened, Cut, Taken, Journal}
+use Rattle.route_events.specs.Connections.{is_open, outstanding, send_count}
+use Rattle.route_events.specs.Records.{ConnectionRecord}
 use Rattle.route_events.specs.Alternatives.{alternatives_of, is_listed, live}
 
 -- two routes are one: the direct one, or by alternatives of one key
@@ -65,6 +67,40 @@ abbrev pub gives : List Alt → Route → Bool
 gives alts route.Direct = true
 gives alts (route.Alt key) = is_listed alts key
 
+-- the basis of a connection, as one question of its record: it was opened for the origin, and what it rests on stands
+abbrev pub rests_on : ConnectionRecord → Origin → Bool
+rests_on c o = origin_eq c.made.origin o && c.bound
+
+abbrev pub is_h2 : Proto → Bool
+is_h2 H2 = true
+is_h2 H3 = false
+is_h2 Http11 = false
+is_h2 Other = false
+
+-- a connection of HTTP/2 stands at the origin's port and at one of its addresses (RFC 9113 9.1.1)
+abbrev pub may_coalesce : Connection → Origin → Reach → Bool
+may_coalesce c o reach = is_h2 c.proto && (nat_eq c.port o.port && reach.address)
+
+-- authority for an https origin: TLS, a certificate for the host, and the origin set, if there is one, or else a
+-- basis or the address
+abbrev pub authorises_https : ConnectionRecord → Origin → Reach → Bool
+authorises_https c o reach =
+    is_tls c.made && (covers c.made.names o.host && (if c.gated then c.holds o else rests_on c o || may_coalesce c.made o reach))
+
+-- authority for an http origin: a connection without TLS that has a basis
+abbrev pub authorises_http : ConnectionRecord → Origin → Bool
+authorises_http c o = not (is_tls c.made) && rests_on c o
+
+-- an open connection may carry requests of an origin: nothing took its authority away
+abbrev pub authorises : ConnectionRecord → Origin → Reach → Bool
+authorises c o reach =
+    not (c.misdirected o) && (if is_https o.scheme then authorises_https c o reach else authorises_http c o)
+
+-- a connection can carry requests of an origin at all only where it was opened for it, where its origin set holds it, or
+-- where it stands at the origin's port and at one of its addresses
+abbrev pub is_candidate : ConnectionRecord → Origin → Reach → Bool
+is_candidate c o reach = origin_eq c.made.origin o || ((c.gated && c.holds o) || (nat_eq c.made.port o.port && reach.address))
+
 -- what the route of a connection rests on still stands: it was live when the connection opened, and every value that was
 -- taken for the origin since lists it (RFC 7838 2.4). That an alternative isn't fresh any more, or that the network
 -- changed, ends nothing.
@@ -73,13 +109,10 @@ is_upheld [] c = false
 is_upheld (Happened moment (fact.Opened attempt proto addr port names) handed_in ∷ older) c =
     if nat_eq attempt c.number then gives (live older c.origin moment) c.route else is_upheld older c
 is_upheld (Happened moment _ handed_in ∷ older) c = is_upheld older c
+is_upheld (Cut moment conn length ∷ older) c = is_upheld older c
 is_upheld (Taken (action.Alternatives o value) ∷ older) c =
     (not (origin_eq o c.origin) || gives (alternatives_of value) c.route) && is_upheld older c
 is_upheld (Taken _ ∷ older) c = is_upheld older c
-
--- a connection has a basis for the origin that it was opened for
-abbrev pub has_basis : Journal → Connection → Origin → ℕ → Bool
-has_basis journal c o now = origin_eq c.origin o && (is_success c && is_upheld journal c)
 
 -- a 421 took the origin away, and no ORIGIN frame gave it back (RFC 9110 15.5.20, RFC 8336 2.3). No 421 is read yet.
 abbrev pub is_misdirected : Journal → Connection → Origin → Bool
@@ -98,26 +131,37 @@ abbrev pub initial_host : Host → Addr → Host
 initial_host (host.Name name) addr = host.Name name
 initial_host _ addr = addr_host addr
 
--- the origin set holds an origin: it is the initial one (RFC 8336 2.3), or an accepted frame listed it. No frame is
--- read yet.
+-- an origin is the initial one of a connection (RFC 8336 2.3)
+abbrev pub is_initial : Connection → Origin → Bool
+is_initial c o = is_https o.scheme && (host_eq (initial_host c.origin.host c.addr) o.host && nat_eq c.port o.port)
+
+-- the origin set holds an origin: it is the initial one, or an accepted frame listed it. No frame is read yet.
 abbrev pub in_set : Journal → Connection → Origin → Bool
-in_set journal c o = is_https o.scheme && (host_eq (initial_host c.origin.host c.addr) o.host && nat_eq c.port o.port)
+in_set journal c o = is_initial c o
 
--- the connection's address is one of the origin's (RFC 9113 9.1.1). No DNS answer is read yet, and nothing coalesces.
-abbrev pub coalesces : Journal → Connection → Origin → ℕ → Bool
-coalesces journal c o now = false
+-- the record of a connection
+abbrev pub record_of : Journal → Connection → ConnectionRecord
+record_of journal c = record {
+  made = c;
+  bound = is_success c && is_upheld journal c;
+  gated = is_gated journal c;
+  holds = in_set journal c;
+  misdirected = is_misdirected journal c;
+  outstanding = outstanding journal c.number;
+  sends = send_count journal c.number;
+}
 
--- authority for an https origin: TLS, a certificate for the host, and the origin set, if there is one, or else a
--- basis or the address
-abbrev pub has_https_authority : Journal → Connection → Origin → ℕ → Bool
-has_https_authority journal c o now =
-    is_tls c && (covers c.names o.host && (if is_gated journal c then in_set journal c o else has_basis journal c o now || coalesces journal c o now))
+-- a connection has a basis for the origin that it was opened for
+abbrev pub has_basis : Journal → Connection → Origin → ℕ → Bool
+has_basis journal c o now = rests_on (record_of journal c) o
 
--- authority for an http origin: a connection without TLS that has a basis
-abbrev pub has_http_authority : Journal → Connection → Origin → ℕ → Bool
-has_http_authority journal c o now = not (is_tls c) && has_basis journal c o now
+-- whether an address is one of the origin's at a moment. No DNS answer is read yet, and nothing coalesces.
+abbrev pub is_address_of : Journal → Origin → ℕ → Addr → Bool
+is_address_of journal o now addr = false
+
+abbrev pub reach_of : Journal → Connection → Origin → ℕ → Reach
+reach_of journal c o now = record { address = is_address_of journal o now c.addr }
 
 -- the connection may carry requests of the origin: it is open, and nothing took its authority away
 abbrev pub is_authoritative : Journal → Connection → Origin → ℕ → Bool
-is_authoritative journal c o now =
-    is_open journal c && (not (is_misdirected journal c o) && (if is_https o.scheme then has_https_authority journal c o now else has_http_authority journal c o now))
+is_authoritative journal c o now = is_open journal c && authorises (record_of journal c) o (reach_of journal c o now)

@@ -8,7 +8,7 @@ use Rattle.route_events.specs.declared.fact.Fact.TheVariants as fact
 use Rattle.route_events.specs.declared.route.Route.{Route}
 use Rattle.route_events.specs.declared.route.Route.TheVariants.{Direct, Alt}
 use Rattle.route_events.specs.declared.attempt.Attempt.{Attempt}
-use Rattle.route_events.specs.Journal.{Happened, Taken, Journal}
+use Rattle.route_events.specs.Journal.{Happened, Cut, Taken, Journal}
 use Rattle.route_events.specs.Attempts.{pending_attempt}
 use Rattle.route_events.specs.Connections.{connection_in}
 use Rattle.route_events.specs.Authority.{route_eq, is_success}
@@ -49,6 +49,7 @@ failures_after older o r moment _ f = f
 abbrev pub failures : Journal → Origin → Route → Failures
 failures [] o r = no_failures
 failures (Happened moment fact handed_in ∷ older) o r = failures_after older o r moment fact (failures older o r)
+failures (Cut moment conn length ∷ older) o r = failures older o r
 failures (Taken action ∷ older) o r = failures older o r
 
 -- for how many seconds so many failures bar a route: 300, doubled at each further one, at most two days

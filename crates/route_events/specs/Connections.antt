@@ -9,7 +9,7 @@ use Rattle.route_events.specs.declared.fact.Fact.TheVariants as fact
 use Rattle.route_events.specs.declared.action.Action.TheVariants as action
 use Rattle.route_events.specs.declared.attempt.Attempt.{Attempt}
 use Rattle.route_events.specs.declared.connection.Connection.{Connection}
-use Rattle.route_events.specs.Journal.{Entry, Happened, Taken, Journal, of_fact, readings}
+use Rattle.route_events.specs.Journal.{Entry, Happened, Cut, Taken, Journal, of_fact, readings}
 use Rattle.route_events.specs.Attempts.{pending_attempt}
 
 -- the connection that a fact makes, of the pending attempt that it ends
@@ -31,8 +31,14 @@ abbrev pub closed_in : Fact → Option ℕ
 closed_in (fact.Closed conn) = Some conn
 closed_in _ = None
 
+-- an entry ends the connection of a number: it closed, or its octets were cut
+abbrev pub is_numbered : ℕ → Option ℕ → Bool
+is_numbered number ended = option_map_or (λ n. nat_eq n number) ended false
+
 abbrev pub closes : ℕ → Entry → Bool
-closes number entry = option_map_or (λ closed. nat_eq closed number) (of_fact closed_in entry) false
+closes number (Happened moment fact handed_in) = is_numbered number (closed_in fact)
+closes number (Cut moment conn length) = nat_eq conn number
+closes number (Taken action) = false
 
 -- nothing has ended the connection
 abbrev pub is_open : Journal → Connection → Bool
@@ -61,6 +67,7 @@ without_any (Some number) numbers = without number numbers
 abbrev pub outstanding : Journal → ℕ → List ℕ
 outstanding [] conn = []
 outstanding (Happened moment fact handed_in ∷ older) conn = without_any (answered_in fact) (outstanding older conn)
+outstanding (Cut moment cut length ∷ older) conn = outstanding older conn
 outstanding (Taken (action.SendOn request to stream alt_used) ∷ older) conn = if nat_eq to conn then outstanding older conn ++ request ∷ [] else outstanding older conn
 outstanding (Taken (action.Lost request) ∷ older) conn = without request (outstanding older conn)
 outstanding (Taken _ ∷ older) conn = outstanding older conn
@@ -69,6 +76,7 @@ outstanding (Taken _ ∷ older) conn = outstanding older conn
 abbrev pub send_count : Journal → ℕ → ℕ
 send_count [] conn = 0
 send_count (Happened moment fact handed_in ∷ older) conn = send_count older conn
+send_count (Cut moment cut length ∷ older) conn = send_count older conn
 send_count (Taken (action.SendOn request to stream alt_used) ∷ older) conn = if nat_eq to conn then send_count older conn + 1 else send_count older conn
 send_count (Taken _ ∷ older) conn = send_count older conn
 

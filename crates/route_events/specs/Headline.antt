@@ -5,7 +5,7 @@ use Rattle.route_events.specs.declared.action.Action.{Action}
 use Rattle.route_events.specs.declared.action.Action.TheVariants as action
 use Rattle.route_events.specs.declared.request.Request.{Request}
 use Rattle.route_events.specs.declared.connection.Connection.{Connection}
-use Rattle.route_events.specs.Journal.{Happened, Taken, Journal, newest_moment}
+use Rattle.route_events.specs.Journal.{Happened, Cut, Taken, Journal, newest_moment}
 use Rattle.route_events.specs.Requests.{request_of, waiting}
 use Rattle.route_events.specs.Connections.{connections, connection_of, is_open, is_busy}
 use Rattle.route_events.specs.Authority.{is_authoritative}
@@ -45,6 +45,7 @@ IsAllowed before _ = Unit {0}
 abbrev pub EachAction : (Journal → Action → Type 0) → Journal → Type 0
 EachAction P [] = Unit {0}
 EachAction P (Happened moment fact handed_in ∷ older) = EachAction P older
+EachAction P (Cut moment conn length ∷ older) = EachAction P older
 EachAction P (Taken action ∷ older) = P older action × EachAction P older
 
 -- the three sentences, of a journal

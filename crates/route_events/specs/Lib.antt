@@ -3,12 +3,16 @@ pub mod Attempts
 pub mod Requests
 pub mod Connections
 pub mod Alternatives
+pub mod Records
 pub mod Authority
 pub mod Backoff
 pub mod Routes
 pub mod Dispatch
 pub mod Advertisements
 pub mod Step
+pub mod Distinct
+pub mod InWords
+pub mod Alike
 pub mod Headline
 pub mod WorkedHistories
 pub mod WorkedAlternatives

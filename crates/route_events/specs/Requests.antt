@@ -6,7 +6,7 @@ use Rattle.route_events.specs.declared.fact.Fact.TheVariants as fact
 use Rattle.route_events.specs.declared.action.Action.{Action}
 use Rattle.route_events.specs.declared.action.Action.TheVariants as action
 use Rattle.route_events.specs.declared.request.Request.{Request}
-use Rattle.route_events.specs.Journal.{Entry, Happened, Taken, Journal, of_fact, newest, readings}
+use Rattle.route_events.specs.Journal.{Entry, Happened, Cut, Taken, Journal, of_fact, of_action, newest, readings}
 
 -- the request that a fact brings
 abbrev pub request_in : Fact → Option Request
@@ -31,10 +31,14 @@ pub data Standing : Type 0 where
   OutOn : (conn : ℕ) → Standing
   Over : Standing
 
+-- a response ends its request, unless the server says that it isn't the origin's (RFC 9110 15.5.20): then it waits again
+abbrev pub after_status : ℕ → Standing
+after_status status = if nat_eq status 421 then Waits else Over
+
 -- a fact, or an action, that moves a request of a number
 abbrev pub moved_by_fact : Fact → Option (ℕ × Standing)
 moved_by_fact (fact.Request number origin) = Some (number, Waits)
-moved_by_fact (fact.Response request status age altsvc) = Some (request, Over)
+moved_by_fact (fact.Response request status age altsvc) = Some (request, after_status status)
 moved_by_fact _ = None
 
 abbrev pub moved_by_action : Action → Option (ℕ × Standing)
@@ -45,6 +49,7 @@ moved_by_action _ = None
 
 abbrev pub moved_by : Entry → Option (ℕ × Standing)
 moved_by (Happened moment fact handed_in) = moved_by_fact fact
+moved_by (Cut moment conn length) = None
 moved_by (Taken action) = moved_by_action action
 
 -- where the request of a number stands, by the newest entry that moved it
@@ -66,3 +71,16 @@ is_out None = false
 is_out (Some Waits) = false
 is_out (Some (OutOn conn)) = true
 is_out (Some Over) = false
+
+-- where a request was sent: the connection, and the stream of HTTP/2
+pub record SentTo : Type 0 where
+  pub conn : ℕ
+  pub stream : Option ℕ
+
+abbrev pub send_in : ℕ → Action → Option SentTo
+send_in number (action.SendOn request conn stream alt_used) = if nat_eq request number then Some (record { conn = conn; stream = stream }) else None
+send_in number _ = None
+
+-- where the request of a number was sent last
+abbrev pub sent_to : Journal → ℕ → Option SentTo
+sent_to journal number = newest (of_action (send_in number)) journal

@@ -7,7 +7,7 @@ use Rattle.route_events.specs.declared.action.Action.TheVariants as action
 use Rattle.route_events.specs.declared.refusal.StepRefusal.{StepRefusal}
 use Rattle.route_events.specs.declared.refusal.StepRefusal.TheVariants.{Spent, TimeBack, NumberNotAbove, NoSuchAttempt, NoSuchConn, NoSuchRequest}
 use Rattle.route_events.specs.declared.request.Request.{Request}
-use Rattle.route_events.specs.Journal.{Happened, Taken, Journal, step_count, newest_moment}
+use Rattle.route_events.specs.Journal.{Entry, Happened, Cut, Taken, Journal, step_count, newest_moment}
 use Rattle.route_events.specs.Attempts.{is_pending}
 use Rattle.route_events.specs.Requests.{newest_number, standing, is_out, waiting}
 use Rattle.route_events.specs.Connections.{is_open_number, outstanding}
@@ -51,25 +51,47 @@ settle journal now (q ∷ qs) = settle (with_actions journal (dispatch journal q
 abbrev pub settled : Journal → ℕ → Journal
 settled journal now = settle journal now (waiting journal)
 
+-- the parts of a fact, as the entries that they make, in order: the fact itself. Those of a connection's octets come
+-- behind it; none are read yet.
+abbrev pub parts_of : Journal → ℕ → Fact → List Entry
+parts_of journal now fact = Happened now fact true ∷ []
+
+-- the effect of a part, in the journal below it
+abbrev pub part_effects : Journal → ℕ → Entry → List Action
+part_effects older now (Happened moment fact handed_in) = effects older now fact
+part_effects older now (Cut moment conn length) = []
+part_effects older now (Taken action) = []
+
+-- the journal with a part and its effect
+abbrev pub with_part : Journal → ℕ → Entry → Journal
+with_part journal now part = with_actions (part ∷ journal) (part_effects journal now part)
+
 -- the journal with a fact and its effect
 abbrev pub with_fact : Journal → ℕ → Fact → Journal
-with_fact journal now fact = with_actions (Happened now fact true ∷ journal) (effects journal now fact)
+with_fact journal now fact = with_part journal now (Happened now fact true)
+
+-- each part has its effect, and then all waiting requests are settled, before the next one
+abbrev pub follow : Journal → ℕ → List Entry → Journal
+follow journal now [] = journal
+follow journal now (part ∷ parts) = follow (settled (with_part journal now part) now) now parts
 
 -- the journal after a step
 abbrev pub step : Journal → ℕ → Fact → Journal
-step journal now fact = settled (with_fact journal now fact) now
+step journal now fact = follow journal now (parts_of journal now fact)
 
 -- the actions of the newest step, in order
 abbrev pub newest_actions : Journal → List Action
 newest_actions [] = []
 newest_actions (Happened moment fact true ∷ older) = []
 newest_actions (Happened moment fact false ∷ older) = newest_actions older
+newest_actions (Cut moment conn length ∷ older) = newest_actions older
 newest_actions (Taken a ∷ older) = newest_actions older ++ a ∷ []
 
 -- all actions, in order
 abbrev pub actions : Journal → List Action
 actions [] = []
 actions (Happened moment fact handed_in ∷ older) = actions older
+actions (Cut moment conn length ∷ older) = actions older
 actions (Taken a ∷ older) = actions older ++ a ∷ []
 
 -- the journal after some facts with their moments, up to the first that is refused

@@ -9,7 +9,7 @@ use Rattle.origin_values.specs.declared.address.Addr.TheVariants.{V4}
 use Rattle.origin_values.specs.declared.proto.Proto.{Proto}
 use Rattle.origin_values.specs.declared.proto.Proto.TheVariants.{H2, Http11}
 use Rattle.route_events.specs.declared.fact.Fact.{Fact}
-use Rattle.route_events.specs.declared.fact.Fact.TheVariants.{Request, Opened, Failed, Closed}
+use Rattle.route_events.specs.declared.fact.Fact.TheVariants.{Request, Opened, Failed, Closed, Response}
 use Rattle.route_events.specs.declared.action.Action.{Action}
 use Rattle.route_events.specs.declared.action.Action.TheVariants.{OpenTo, SendOn, Refuse, Lost}
 use Rattle.route_events.specs.declared.route.Route.TheVariants.{Direct}
@@ -64,3 +64,11 @@ two_schemes = (0, Request 1 site) ∷ (1, opened_with 1 H2) ∷ (2, Request 2 pl
 
 abbrev pub one_each : List Action
 one_each = OpenTo 1 site Direct ∷ SendOn 1 1 (Some 1) None ∷ OpenTo 2 plain_site Direct ∷ SendOn 2 2 None None ∷ []
+
+-- after a response of status 421 its request waits again (RFC 9110 15.5.20); no 421 takes authority away yet, so that it
+-- is sent again on the same connection
+abbrev pub misdirected_request : List (ℕ × Fact)
+misdirected_request = (0, Request 1 site) ∷ (1, opened_with 1 H2) ∷ (2, Response 1 421 0 None) ∷ []
+
+abbrev pub sent_again : List Action
+sent_again = OpenTo 1 site Direct ∷ SendOn 1 1 (Some 1) None ∷ SendOn 1 1 (Some 3) None ∷ []

@@ -1,8 +1,23 @@
 //! Laws of the journal, stated over its definitions alone.
-ghost use Rattle.std.specs.Prelude.{◌≡◌, ℕ, true, List, [], ◌∷◌, ◌++◌};
+ghost use Rattle.std.specs.Prelude.{◌≡◌, ◌↔◌, ℕ, true, false, List, [], ◌∷◌, ◌++◌, Some, Any};
+ghost use Rattle.std.specs.List.{list_any};
+ghost use Rattle.origin_values.specs.Equality.{origin_eq};
+ghost use Rattle.origin_values.specs.declared.origin.Origin.{Origin as OriginValue};
+ghost use Rattle.altsvc_grammar.specs.declared.alt.Alt.{Alt as Alternative};
 ghost use Rattle.route_events.specs.declared.fact.Fact.{Fact as FactValue};
+ghost use Rattle.route_events.specs.declared.reach.Reach.{Reach as ReachValue};
+ghost use Rattle.route_events.specs.declared.route.Route.{Route as RouteValue};
 ghost use Rattle.route_events.specs.Journal.{Journal, Happened, Taken, newest_moment};
 ghost use Rattle.route_events.specs.Step.{step, run, IsRun, settled};
+ghost use Rattle.route_events.specs.Requests.{OutOn, standing};
+ghost use Rattle.route_events.specs.Connections.{outstanding};
+ghost use Rattle.route_events.specs.Advertisements.{is_one_of};
+ghost use Rattle.route_events.specs.Alternatives.{live};
+ghost use Rattle.route_events.specs.Records.{ConnectionRecord};
+ghost use Rattle.route_events.specs.Authority.{authorises, is_candidate};
+ghost use Rattle.route_events.specs.Backoff.{failures, no_failures};
+ghost use Rattle.route_events.specs.Distinct.{are_apart, advertised_origins, pair_eq, attempted_routes};
+ghost use Rattle.route_events.specs.InWords.{IsLive, AreFailures};
 ghost use Rattle.route_events.specs.Headline.{IsAllowed, SendsOnlyOn, RefusesOnlyWhere, WaitsOnlyFor};
 
 use crate::{Action, Fact};
@@ -38,4 +53,38 @@ pub fn each_action()
     ensures waits { (journal : Journal) → IsRun journal → WaitsOnlyFor journal }
     ensures settled { (journal : Journal) → IsRun journal → settled journal (newest_moment journal) ≡ journal }
     ensures runs { (events : List (ℕ × FactValue)) → IsRun (run [] events) }
+{}
+
+/// In the words of RFC 7838 (2.2, 3, 3.1), of every journal: an alternative is live where the value that was taken last for
+/// the origin lists it, it is still fresh, and it persists or the network hasn't changed since.
+pub fn live_in_words()
+    ensures { (journal : Journal) (o : OriginValue) (now : ℕ) (a : Alternative) → Any (λ b. b ≡ a) (live journal o now) ↔ IsLive journal o now a }
+{}
+
+/// Of every journal: the failures of an origin's route are those since its newest success and the newest change of the
+/// network, and the last of them is the newest.
+pub fn failures_in_words()
+    ensures { (journal : Journal) (o : OriginValue) (r : RouteValue) → AreFailures journal o r (failures journal o r).count (failures journal o r).last }
+{}
+
+/// After each step a request is outstanding on a connection exactly where the newest entry that moved it sent it there.
+pub fn outstanding_in_words()
+    ensures { (events : List (ℕ × FactValue)) (number conn : ℕ) →
+        (is_one_of number (outstanding (run [] events) conn) ≡ true) ↔ (standing (run [] events) number ≡ Some (OutOn conn)) }
+{}
+
+/// Of every journal: no alternative is live for an origin for which no value was ever taken, and no route failed by which
+/// no attempt for the origin ever started. So all there is to know of alternatives and failures is at the different origins
+/// with a value and the different origins with a route that was tried.
+pub fn nothing_elsewhere()
+    ensures live { (journal : Journal) (o : OriginValue) (now : ℕ) → list_any (λ p. origin_eq p o) (advertised_origins journal) ≡ false → live journal o now ≡ [] }
+    ensures failures { (journal : Journal) (o : OriginValue) (r : RouteValue) → list_any (λ p. pair_eq p (o, r)) (attempted_routes journal) ≡ false → failures journal o r ≡ no_failures }
+    ensures origins { (journal : Journal) → are_apart origin_eq (advertised_origins journal) ≡ true }
+    ensures routes { (journal : Journal) → are_apart pair_eq (attempted_routes journal) ≡ true }
+{}
+
+/// A connection is authoritative for an origin only where it was opened for it, where its origin set holds it, or where it
+/// stands at the origin's port and at one of its addresses.
+pub fn only_candidates()
+    ensures { (c : ConnectionRecord) (o : OriginValue) (reach : ReachValue) → is_candidate c o reach ≡ false → authorises c o reach ≡ false }
 {}

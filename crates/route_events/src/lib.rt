@@ -9,6 +9,7 @@ mod fact;
 mod histories;
 mod laws;
 mod protocols;
+mod reach;
 mod refusal;
 mod request;
 mod route;
@@ -18,8 +19,12 @@ pub use attempt::Attempt;
 pub use connection::Connection;
 pub use fact::Fact;
 pub use histories::{worked_alternatives, worked_histories};
-pub use laws::{each_action, refused_only_where, sent_only_on, settles_once, waits_only_for};
+pub use laws::{
+    each_action, failures_in_words, live_in_words, nothing_elsewhere, only_candidates,
+    outstanding_in_words, refused_only_where, sent_only_on, settles_once, waits_only_for,
+};
 pub use protocols::{is_supported, protocols_of};
+pub use reach::Reach;
 pub use refusal::StepRefusal;
 pub use request::Request;
 pub use route::{Route, Routes, same_route};

@@ -1,0 +1,66 @@
+-- Which two histories are alike: they share all that a later step can ask for. What else they hold may be forgotten: how
+-- the direct route failed, the routes tried for requests that ended, connections that closed, values that ended.
+use Rattle.std.specs.Prelude.{◌≡◌, ◌⊎◌, ℕ, true, [], length, Option, Some, All}
+use Rattle.std.specs.Option.{option_map}
+use Rattle.origin_values.specs.declared.origin.Origin.{Origin}
+use Rattle.altsvc_grammar.specs.declared.alt_key.AltKey.{AltKey}
+use Rattle.route_events.specs.declared.route.Route.{Route}
+use Rattle.route_events.specs.declared.route.Route.TheVariants.{Alt}
+use Rattle.route_events.specs.declared.request.Request.{Request}
+use Rattle.route_events.specs.Journal.{Journal, step_count, newest_moment}
+use Rattle.route_events.specs.Attempts.{attempts, pending}
+use Rattle.route_events.specs.Requests.{newest_number, request_of, standing, is_out, waiting, sent_to}
+use Rattle.route_events.specs.Connections.{open_connections}
+use Rattle.route_events.specs.Alternatives.{Took, live, took}
+use Rattle.route_events.specs.Records.{ConnectionRecord}
+use Rattle.route_events.specs.Authority.{record_of}
+use Rattle.route_events.specs.Backoff.{failures}
+use Rattle.route_events.specs.Routes.{was_tried}
+
+-- a connection says the same in both: whether it has a basis, whether it has an origin set, which origins that holds, for
+-- which it is misdirected, what is outstanding in which order, how many sends there were
+pub record SameRecord (a b : ConnectionRecord) : Type 0 where
+  pub made : a.made ≡ b.made
+  pub bound : a.bound ≡ b.bound
+  pub gated : a.gated ≡ b.gated
+  pub holds : (o : Origin) → a.holds o ≡ b.holds o
+  pub misdirected : (o : Origin) → a.misdirected o ≡ b.misdirected o
+  pub outstanding : a.outstanding ≡ b.outstanding
+  pub sends : a.sends ≡ b.sends
+
+-- a request was tried on the same routes since its arrival
+abbrev pub SameTries : Journal → Journal → Request → Type 0
+SameTries j k q = (r : Route) → was_tried j q r ≡ was_tried k q r
+
+-- the request of a number is outstanding in both, is the same, and was sent last on the same connection and stream
+pub record SameOutstanding (j k : Journal) (number : ℕ) : Type 0 where
+  pub out : is_out (standing k number) ≡ true
+  pub request : request_of j number ≡ request_of k number
+  pub sent : sent_to j number ≡ sent_to k number
+  pub tried : (q : Request) → request_of j number ≡ Some q → SameTries j k q
+
+-- the moment and the age of a value
+abbrev pub brought : Option Took → Option (ℕ × ℕ)
+brought taken = option_map (λ (t : Took). (t.moment, t.age)) taken
+
+pub record Alike (j k : Journal) : Type 0 where
+  -- the number of steps, the moment of the newest, the newest request's number, and how many attempts there were
+  pub steps : step_count j ≡ step_count k
+  pub moment : newest_moment j ≡ newest_moment k
+  pub newest : newest_number j ≡ newest_number k
+  pub opened : length (attempts j) ≡ length (attempts k)
+  -- the live alternatives of each origin and, where there is one, the moment and age of their value
+  pub alternatives : (o : Origin) → live j o (newest_moment j) ≡ live k o (newest_moment k)
+  pub brought : (o : Origin) → (live j o (newest_moment j) ≡ []) ⊎ (brought (took j o) ≡ brought (took k o))
+  -- how often each route by an alternative failed in a row and, where it did, when last
+  pub failed : (o : Origin) (key : AltKey) → (failures j o (Alt key)).count ≡ (failures k o (Alt key)).count
+  pub last : (o : Origin) (key : AltKey) → ((failures j o (Alt key)).count ≡ 0) ⊎ ((failures j o (Alt key)).last ≡ (failures k o (Alt key)).last)
+  -- the pending attempts, and the open connections in the order of their opening
+  pub pending : pending j ≡ pending k
+  pub connections : open_connections j ≡ open_connections k
+  pub records : All (λ c. SameRecord (record_of j c) (record_of k c)) (open_connections j)
+  -- the requests that wait and those that are outstanding
+  pub tried : All (SameTries j k) (waiting j)
+  pub waiting : waiting j ≡ waiting k
+  pub outstanding : (number : ℕ) → is_out (standing j number) ≡ true → SameOutstanding j k number
+  pub no_more : (number : ℕ) → is_out (standing k number) ≡ true → is_out (standing j number) ≡ true
