@@ -9,9 +9,11 @@ use Rattle.route_events.specs.Authority.{route_eq}
 use Rattle.route_choice.specs.declared.failed_route.FailedRoute.{FailedRoute}
 use Rattle.route_choice.specs.Pairs.{is_pair, is_among, are_distinct}
 use Rattle.route_choice.specs.FailedRoutes.{is_of, pairs_of, once_more, first_failure, after_failure, after_success}
-use Rattle.route_choice.proofs.Lists.{neither, neither_left, neither_right, and_left, and_right, both, from_not, not_from, map_append}
 use Rattle.route_choice.proofs.Same.{turned_not}
 use Rattle.route_choice.proofs.PairLists.{without, distinct_without}
+use Rattle.alt_base.proofs.Booleans.{first_of_neither, second_of_neither, first_of_both, second_of_both}
+use Rattle.std.proofs.lemmas.Bool.{or_from, and_from, not-true, not_from_false}
+use Rattle.std.proofs.lemmas.List.{map-append}
 
 pub among_pairs : (o : Origin) (r : Route) (fs : List FailedRoute) → list_any (is_of o r) fs ≡ is_among o r (pairs_of fs)
 among_pairs o r [] = refl
@@ -29,17 +31,17 @@ same_pairs now o r (f ∷ fs) = rw (same_pairs now o r fs) (by_test (is_of o r f
     by_test false = refl
 
 among_pushed : (a o : Origin) (b r : Route) (ps : List (Origin × Route)) → is_among a b ps ≡ false → (origin_eq o a && route_eq r b) ≡ false → is_among a b (ps ++ (o, r) ∷ []) ≡ false
-among_pushed a o b r [] h k = neither (origin_eq o a && route_eq r b) false k refl
+among_pushed a o b r [] h k = or_from (origin_eq o a && route_eq r b) false k refl
 among_pushed a o b r (p ∷ ps) h k =
-    neither (is_pair a b p) (is_among a b (ps ++ (o, r) ∷ [])) (neither_left (is_pair a b p) (is_among a b ps) h) (among_pushed a o b r ps (neither_right (is_pair a b p) (is_among a b ps) h) k)
+    or_from (is_pair a b p) (is_among a b (ps ++ (o, r) ∷ [])) (first_of_neither (is_pair a b p) (is_among a b ps) h) (among_pushed a o b r ps (second_of_neither (is_pair a b p) (is_among a b ps) h) k)
 
 distinct_pushed : (o : Origin) (r : Route) (ps : List (Origin × Route)) → is_among o r ps ≡ false → are_distinct ps ≡ true → are_distinct (ps ++ (o, r) ∷ []) ≡ true
 distinct_pushed o r [] h k = refl
 distinct_pushed o r (p ∷ ps) h k =
-    let alone = from_not (is_among p.0 p.1 ps) (and_left (not (is_among p.0 p.1 ps)) (are_distinct ps) k) in
-    let other = turned_not p.0 o p.1 r (neither_left (is_pair o r p) (is_among o r ps) h) in
-    both (not (is_among p.0 p.1 (ps ++ (o, r) ∷ []))) (are_distinct (ps ++ (o, r) ∷ [])) (not_from (is_among p.0 p.1 (ps ++ (o, r) ∷ [])) (among_pushed p.0 o p.1 r ps alone other))
-    (distinct_pushed o r ps (neither_right (is_pair o r p) (is_among o r ps) h) (and_right (not (is_among p.0 p.1 ps)) (are_distinct ps) k))
+    let alone = not-true (is_among p.0 p.1 ps) (first_of_both (not (is_among p.0 p.1 ps)) (are_distinct ps) k) in
+    let other = turned_not p.0 o p.1 r (first_of_neither (is_pair o r p) (is_among o r ps) h) in
+    and_from (not (is_among p.0 p.1 (ps ++ (o, r) ∷ []))) (are_distinct (ps ++ (o, r) ∷ [])) (not_from_false (is_among p.0 p.1 (ps ++ (o, r) ∷ [])) (among_pushed p.0 o p.1 r ps alone other))
+    (distinct_pushed o r ps (second_of_neither (is_pair o r p) (is_among o r ps) h) (second_of_both (not (is_among p.0 p.1 ps)) (are_distinct ps) k))
 
 pub distinct_after_failure : (now : ℕ) (o : Origin) (r : Route) (fs : List FailedRoute) → are_distinct (pairs_of fs) ≡ true → are_distinct (pairs_of (after_failure now o r fs)) ≡ true
 distinct_after_failure now o r fs h = by_test (list_any (is_of o r) fs) refl
@@ -47,7 +49,7 @@ distinct_after_failure now o r fs h = by_test (list_any (is_of o r) fs) refl
     by_test : (b : Bool) → list_any (is_of o r) fs ≡ b → are_distinct (pairs_of (cond b (map (once_more now o r) fs) (fs ++ first_failure now o r ∷ []))) ≡ true
     by_test true e = ap are_distinct (same_pairs now o r fs) ∙ h
     by_test false e =
-        ap are_distinct (map_append (λ (f : FailedRoute). (f.origin, f.route)) fs (first_failure now o r ∷ [])) ∙ distinct_pushed o r (pairs_of fs) (sym (among_pairs o r fs) ∙ e) h
+        ap are_distinct (map-append (λ (f : FailedRoute). (f.origin, f.route)) fs (first_failure now o r ∷ [])) ∙ distinct_pushed o r (pairs_of fs) (sym (among_pairs o r fs) ∙ e) h
 
 -- a success takes its route's pair away
 without_pair : (o : Origin) (r : Route) (fs : List FailedRoute) → pairs_of (after_success o r fs) ≡ without o r (pairs_of fs)

@@ -12,8 +12,8 @@ use Rattle.route_events.specs.Backoff.{Failures, no_failures, failed_at, is_barr
 use Rattle.route_choice.specs.declared.failed_route.FailedRoute.{FailedRoute}
 use Rattle.route_choice.specs.Capped.{capped}
 use Rattle.route_choice.specs.FailedRoutes.{failures_of, is_of, failures_in, once_more, first_failure, after_failure, after_success}
-use Rattle.route_choice.proofs.Lists.{contradicts}
 use Rattle.route_choice.proofs.Same.{own, along, joined}
+use Rattle.alt_base.proofs.Booleans.{contradicts}
 
 abbrev pub chosen : FailedRoute → Failures → Bool → Failures
 chosen f rest b = cond b (failures_of f) rest

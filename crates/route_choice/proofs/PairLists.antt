@@ -5,8 +5,9 @@ use Rattle.std.proofs.lemmas.List.Sums.{sum_by-cons}
 use Rattle.origin_values.specs.declared.origin.Origin.{Origin}
 use Rattle.route_events.specs.declared.route.Route.{Route}
 use Rattle.route_choice.specs.Pairs.{is_pair, is_among, are_distinct, IsNumberOf}
-use Rattle.route_choice.proofs.Lists.{contradicts, or_right, neither, and_left, and_right, both, from_not, not_from}
 use Rattle.route_choice.proofs.Same.{own, along, turned}
+use Rattle.alt_base.proofs.Booleans.{contradicts, first_of_both, second_of_both}
+use Rattle.std.proofs.lemmas.Bool.{or_right, or_from, and_from, not-true, not_from_false}
 
 -- the second pair is the first
 abbrev is : Origin × Route → Origin × Route → Bool
@@ -54,10 +55,10 @@ among_without q p (s ∷ ps) = by_tests (is p s) (is q s) (is q p) refl refl ref
 
 pub distinct_without : (p : Origin × Route) (ps : List (Origin × Route)) → are_distinct ps ≡ true → are_distinct (without p.0 p.1 ps) ≡ true
 distinct_without p [] h = refl
-distinct_without p (s ∷ ps) h = by_test (is p s) (distinct_without p ps (and_right (not (among s ps)) (are_distinct ps) h))
+distinct_without p (s ∷ ps) h = by_test (is p s) (distinct_without p ps (second_of_both (not (among s ps)) (are_distinct ps) h))
   where
     alone : among s ps ≡ false
-    alone = from_not (among s ps) (and_left (not (among s ps)) (are_distinct ps) h)
+    alone = not-true (among s ps) (first_of_both (not (among s ps)) (are_distinct ps) h)
 
     fewer : (a b : Bool) → b ≡ false → (a && b) ≡ false
     fewer true b h = h
@@ -66,7 +67,7 @@ distinct_without p (s ∷ ps) h = by_test (is p s) (distinct_without p ps (and_r
     by_test : (a : Bool) → are_distinct (without p.0 p.1 ps) ≡ true → are_distinct (cond (not a) (s ∷ without p.0 p.1 ps) (without p.0 p.1 ps)) ≡ true
     by_test true rest = rest
     by_test false rest =
-        both (not (among s (without p.0 p.1 ps))) (are_distinct (without p.0 p.1 ps)) (not_from (among s (without p.0 p.1 ps)) (among_without s p ps ∙ fewer (not (is s p)) (among s ps) alone)) rest
+        and_from (not (among s (without p.0 p.1 ps))) (are_distinct (without p.0 p.1 ps)) (not_from_false (among s (without p.0 p.1 ps)) (among_without s p ps ∙ fewer (not (is s p)) (among s ps) alone)) rest
 
 abbrev one_if : Bool → ℕ
 one_if b = cond b 1 0
@@ -85,10 +86,10 @@ none_pass (p ∷ ps) = omega (arith, sum_by-cons (λ (q : Origin × Route). one_
 
 count_without : (t : Origin × Route → Bool) (p : Origin × Route) (ps : List (Origin × Route)) → are_distinct ps ≡ true → count_by t ps ≡ cond (among p ps) (one_if (t p)) 0 + count_by t (without p.0 p.1 ps)
 count_without t p [] h = refl
-count_without t p (s ∷ ps) h = by_test (is p s) refl (count_without t p ps (and_right (not (among s ps)) (are_distinct ps) h))
+count_without t p (s ∷ ps) h = by_test (is p s) refl (count_without t p ps (second_of_both (not (among s ps)) (are_distinct ps) h))
   where
     alone : among s ps ≡ false
-    alone = from_not (among s ps) (and_left (not (among s ps)) (are_distinct ps) h)
+    alone = not-true (among s ps) (first_of_both (not (among s ps)) (are_distinct ps) h)
 
     by_test : (a : Bool) → is p s ≡ a → count_by t ps ≡ cond (among p ps) (one_if (t p)) 0 + count_by t (without p.0 p.1 ps)
         → count_by t (s ∷ ps) ≡ cond (a || among p ps) (one_if (t p)) 0 + count_by t (cond (not a) (s ∷ without p.0 p.1 ps) (without p.0 p.1 ps))
@@ -104,12 +105,12 @@ one_count : (t : Origin × Route → Bool) (ps qs : List (Origin × Route)) → 
     → count_by t ps ≡ count_by t qs
 one_count t [] qs h k outside inside = sym (same_count t (λ p. false) qs (λ s found. inside s found refl) ∙ none_pass qs)
 one_count t (p ∷ ps) qs h k outside inside =
-    let rest = one_count t ps (without p.0 p.1 qs) (and_right (not (among p ps)) (are_distinct ps) h) (distinct_without p qs k) others_outside others_inside in
+    let rest = one_count t ps (without p.0 p.1 qs) (second_of_both (not (among p ps)) (are_distinct ps) h) (distinct_without p qs k) others_outside others_inside in
     let here = first (among p qs) refl in
     omega (arith, sum_by-cons (λ q. one_if (t q)) p ps, count_without t p qs k, rest, here)
   where
     alone : among p ps ≡ false
-    alone = from_not (among p ps) (and_left (not (among p ps)) (are_distinct ps) h)
+    alone = not-true (among p ps) (first_of_both (not (among p ps)) (are_distinct ps) h)
 
     first : (w : Bool) → among p qs ≡ w → cond (among p qs) (one_if (t p)) 0 ≡ one_if (t p)
     first true e = rw e refl
@@ -123,7 +124,7 @@ one_count t (p ∷ ps) qs h k outside inside =
     others_inside : (s : Origin × Route) → among s (without p.0 p.1 qs) ≡ true → among s ps ≡ false → t s ≡ false
     others_inside s found none =
         let parts : (not (is s p) && among s qs) ≡ true = sym (among_without s p qs) ∙ found in
-        inside s (and_right (not (is s p)) (among s qs) parts) (neither (is s p) (among s ps) (from_not (is s p) (and_left (not (is s p)) (among s qs) parts)) none)
+        inside s (second_of_both (not (is s p)) (among s qs) parts) (or_from (is s p) (among s ps) (not-true (is s p) (first_of_both (not (is s p)) (among s qs) parts)) none)
 
 pub one_number_of : (s t : Origin → Route → Bool) (m n : ℕ) → ((o : Origin) (r : Route) → s o r ≡ t o r) → IsNumberOf s m → IsNumberOf t n → m ≡ n
 one_number_of s t m n agree a b =

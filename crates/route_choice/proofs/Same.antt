@@ -7,7 +7,8 @@ use Rattle.origin_values.specs.Equality.{origin_eq}
 use Rattle.route_events.specs.declared.route.Route.{Route}
 use Rattle.route_events.specs.declared.route.Route.TheVariants.{Direct, Alt}
 use Rattle.route_events.specs.Authority.{route_eq}
-use Rattle.route_choice.proofs.Lists.{contradicts, and_left, and_right, both}
+use Rattle.alt_base.proofs.Booleans.{contradicts, first_of_both, second_of_both}
+use Rattle.std.proofs.lemmas.Bool.{and_from}
 
 one_origin : (a b : Origin) → (origin_eq a b ≡ true) ↔ (a ≡ b)
 one_origin a b = search rules
@@ -30,13 +31,13 @@ own_route (Alt key) = own_key key
 
 -- they are their own
 pub own : (o : Origin) (r : Route) → (origin_eq o o && route_eq r r) ≡ true
-own o r = both (origin_eq o o) (route_eq r r) ((one_origin o o).1 refl) (own_route r)
+own o r = and_from (origin_eq o o) (route_eq r r) ((one_origin o o).1 refl) (own_route r)
 
 same_origin : (o p : Origin) (r s : Route) → (origin_eq o p && route_eq r s) ≡ true → o ≡ p
-same_origin o p r s h = (one_origin o p).0 (and_left (origin_eq o p) (route_eq r s) h)
+same_origin o p r s h = (one_origin o p).0 (first_of_both (origin_eq o p) (route_eq r s) h)
 
 same_route : (o p : Origin) (r s : Route) → (origin_eq o p && route_eq r s) ≡ true → r ≡ s
-same_route o p r s h = one_route r s (and_right (origin_eq o p) (route_eq r s) h)
+same_route o p r s h = one_route r s (second_of_both (origin_eq o p) (route_eq r s) h)
 
 -- what holds of a pair holds of one that is the same
 pub along : (P : Origin → Route → Type 0) (o p : Origin) (r s : Route) → (origin_eq o p && route_eq r s) ≡ true → P o r → P p s

@@ -1,6 +1,6 @@
 use Rattle.route_choice.specs.FailedRoutes.{once_more}
-use Rattle.route_choice.proofs.Lists.{set_mapped}
 use Rattle.route_choice.proofs.failed_route.fail_all_once_more.Goals as goal
+use Rattle.alt_base.proofs.Lists.{set_mapped}
 
 pub loop-f-preserved : goal.loop-f-preserved
 loop-f-preserved c =

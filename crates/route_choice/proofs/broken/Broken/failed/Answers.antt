@@ -1,15 +1,11 @@
-use Rattle.std.proofs.Common.{refl, ap, ◌∙◌, Result, Ok, Err}
-use Rattle.std.specs.Prelude.{OnErr}
+use Rattle.std.proofs.Common.{refl, ap, ◌∙◌}
 use Rattle.route_choice.specs.Contents.{kept_failures, newest_moment}
 use Rattle.route_choice.specs.Pairs.{are_distinct}
 use Rattle.route_choice.specs.FailedRoutes.{failures_in, pairs_of}
 use Rattle.route_choice.proofs.Distinct.{distinct_after_failure}
 use Rattle.route_choice.proofs.Lookups.{after_failure_in}
 use Rattle.route_choice.proofs.broken.Broken.failed.Goals as goal
-
-on_err : {T E : Type 0} (r : Result T E) (P : Type 0) → P → OnErr r P
-on_err (Ok x) P p = tt
-on_err (Err e) P p = p
+use Rattle.alt_base.proofs.Variants.{on_err}
 
 pub returns-in_err-note_failure-clause-as_before : goal.returns-in_err-note_failure-clause-as_before
 unfolding kept_failures newest_moment
