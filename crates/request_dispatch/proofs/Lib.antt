@@ -1,0 +1,5 @@
+pub mod Listing
+pub mod Loops
+pub mod Otherwise
+pub mod Bounds
+pub mod Placing

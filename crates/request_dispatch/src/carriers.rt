@@ -1,0 +1,90 @@
+ghost use Rattle.std.specs.Prelude.{◌≡◌, ◌∷◌, ◌++◌, ◌&&◌, [], OnOk, IfOk};
+ghost use Rattle.std.specs.List.{list_any};
+ghost use Rattle.std.specs.Option.{option_copied, option_and_then};
+ghost use Rattle.route_events.specs.Advertisements.{is_one_of};
+ghost use Rattle.request_dispatch.specs.ConnectionTable.{connection_among};
+ghost use Rattle.request_dispatch.specs.Looks.{no_address};
+ghost use Rattle.request_dispatch.specs.Carriers.{is_carrier, is_free, candidate_of, candidates, is_answered_by_authority};
+
+use crate::authority::{authorises, reach};
+use crate::basis::{basis_of, is_occupied};
+use crate::open_connection::OpenConnection;
+use crate::requests::is_one_of;
+use alt_base::{ListOf, NoMemory};
+use origin_values::Origin;
+use route_choice::{Candidate, Candidates};
+use std::alloc::Global;
+
+// Whether the connection is authoritative for the origin now.
+fn is_carrier(connection: &OpenConnection, origin: &Origin) -> bool
+    ensures { result ≡ is_carrier no_address origin.now connection.now }
+{
+    authorises(connection, origin, reach(&connection.made, origin))
+}
+
+// Whether it may carry a request of the origin now.
+fn is_free(connection: &OpenConnection, origin: &Origin) -> bool
+    ensures { result ≡ is_free no_address origin.now connection.now }
+{
+    is_carrier(connection, origin) && !is_occupied(connection)
+}
+
+/// Whether one of some connections is authoritative for the origin now.
+pub(crate) fn is_any_carrier(connections: &[OpenConnection], origin: &Origin) -> bool
+    ensures { result ≡ list_any (is_carrier no_address origin.now) connections.now }
+{
+    connections
+        .iter()
+        .any(|connection| is_carrier(connection, origin))
+}
+
+fn answers(connection: &OpenConnection, request: u32, origin: &Origin) -> bool
+    ensures { result ≡ (is_one_of request connection.now.outstanding && is_carrier no_address origin.now connection.now) }
+{
+    is_one_of(request, connection.outstanding.as_slice()) && is_carrier(connection, origin)
+}
+
+/// Whether one on which the request of this number is outstanding is authoritative for the origin now.
+pub(crate) fn is_answered_by_authority(
+    connections: &[OpenConnection],
+    request: u32,
+    origin: &Origin,
+) -> bool
+    ensures { result ≡ is_answered_by_authority no_address request origin.now connections.now }
+{
+    connections
+        .iter()
+        .any(|connection| answers(connection, request, origin))
+}
+
+// Appends the connection, with its basis, where it may carry a request of the origin now.
+fn push_candidate(
+    free: &mut Candidates,
+    connection: &OpenConnection,
+    origin: &Origin,
+) -> Result<(), NoMemory>
+    ensures { OnOk result (free.new ≡ free.old ++ candidates no_address origin.now (connection.now ∷ [])) }
+{
+    if is_free(connection, origin) {
+        return free.push(Candidate {
+            conn: connection.made.number,
+            basis: basis_of(connection, origin),
+        });
+    }
+    Ok(())
+}
+
+/// Those of some connections that may carry a request of the origin now, each with its basis, in order.
+pub(crate) fn candidates(
+    alloc: Global,
+    connections: &[OpenConnection],
+    origin: &Origin,
+) -> Result<Candidates, NoMemory>
+    ensures { IfOk result (λ free. free ≡ candidates no_address origin.now connections.now) }
+{
+    let mut free = ListOf::new(alloc);
+    for connection in connections {
+        push_candidate(&mut free, connection, origin)?;
+    }
+    Ok(free)
+}

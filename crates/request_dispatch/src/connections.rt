@@ -1,0 +1,164 @@
+ghost use Rattle.std.specs.Prelude.{◌≡◌, ◌<◌, ◌^◌, ◌++◌, ◌∷◌, [], map, OnOk, IfOk};
+ghost use Rattle.std.specs.List.{list_any};
+ghost use Rattle.std.specs.Option.{option_copied, option_and_then};
+ghost use Rattle.request_dispatch.specs.ConnectionTable.{connection_among, other_connections, begun, sent_on, without_request, rebound, is_opened_by, most_sends};
+ghost use Rattle.request_dispatch.specs.Looks.{no_address};
+ghost use Rattle.request_dispatch.specs.Carriers.{is_carrier, candidates, best_connection, is_answered_by_authority};
+
+use crate::carriers::{candidates, is_answered_by_authority, is_any_carrier};
+use crate::open_connection::{OpenConnection, forget_request, note_sends, rebind_all};
+use alt_base::{ListOf, NoMemory};
+use altsvc_grammar::Alt;
+use origin_values::{Origin, same_origin};
+use route_choice::{Candidates, best};
+use route_events::{Connection, Route, same_route};
+use std::alloc::Global;
+use std::marker::Model;
+
+/// The open connections, in the order of their opening.
+#[derive(Debug, Drop)]
+pub struct Connections {
+    open: Vec<OpenConnection>,
+}
+
+impl Model for Connections {
+    ghost use Rattle.std.specs.Prelude.{List};
+    ghost use Rattle.request_dispatch.specs.declared.open_connection.OpenConnection.{OpenConnection};
+
+    ghost Value = { List OpenConnection };
+
+    ghost view = { λ connections. connections.open.items };
+}
+
+impl Connections {
+    /// No connections. It takes no memory.
+    pub fn new(alloc: Global) -> Connections
+        ensures { result ≡ [] }
+    {
+        Connections {
+            open: Vec::new(alloc),
+        }
+    }
+
+    /// A connection opens: nothing is outstanding on it, and nothing was sent. NoMemory comes only where memory isn't
+    /// found.
+    pub fn open(&mut self, alloc: Global, made: Connection, bound: bool) -> Result<(), NoMemory>
+        ensures { OnOk result (self.new ≡ self.old ++ begun made bound ∷ []) }
+    {
+        self.open.push(OpenConnection {
+            made,
+            bound,
+            outstanding: ListOf::new(alloc),
+            sends: 0,
+        })?;
+        Ok(())
+    }
+
+    /// The open connection of a number; None exactly where none has it. It takes no memory.
+    pub fn of_number(&self, number: u64) -> Option<&OpenConnection>
+        ensures { option_copied result ≡ connection_among self.now number }
+    {
+        connection_among(self.open.as_slice(), number)
+    }
+
+    /// The connection of a number isn't open any more. It takes no memory.
+    pub fn close(&mut self, number: u64)
+        ensures { self.new ≡ other_connections self.old number }
+    {
+        drop_connection(&mut self.open, number);
+    }
+
+    /// A request was sent on the connection of a number. NoMemory comes only where memory isn't found.
+    pub fn note_send(&mut self, conn: u64, request: u32) -> Result<(), NoMemory>
+        requires { most_sends self.old < 2 ^ 31 }
+        ensures { OnOk result (self.new ≡ map (sent_on conn request) self.old) }
+    {
+        note_sends(&mut self.open, conn, request)
+    }
+
+    /// A request isn't outstanding any more, on any connection. It takes no memory.
+    pub fn note_answer(&mut self, alloc: Global, request: u32)
+        ensures { self.new ≡ map (without_request request) self.old }
+    {
+        forget_request(alloc, &mut self.open, request);
+    }
+
+    /// A value of Alt-Svc was taken for an origin: its connections that were opened by alternatives that the value doesn't
+    /// list rest on nothing any more (RFC 7838 2.4). It takes no memory.
+    pub fn rebind(&mut self, origin: &Origin, alts: &[Alt])
+        ensures { self.new ≡ map (rebound origin.now alts.now) self.old }
+    {
+        rebind_all(&mut self.open, origin, alts);
+    }
+
+    /// Whether a connection is authoritative for the origin, busy or not. It takes no memory.
+    pub fn has_carrier(&self, origin: &Origin) -> bool
+        ensures { result ≡ list_any (is_carrier no_address origin.now) self.now }
+    {
+        is_any_carrier(self.open.as_slice(), origin)
+    }
+
+    /// Whether a connection was opened for the origin by the route. It takes no memory.
+    pub fn is_open_by(&self, origin: &Origin, route: &Route) -> bool
+        ensures { result ≡ list_any (is_opened_by origin.now route.now) self.now }
+    {
+        is_any_opened_by(self.open.as_slice(), origin, route)
+    }
+
+    /// Whether a connection on which the request of this number is outstanding is authoritative for the origin. It takes no
+    /// memory.
+    pub fn is_answered_by_authority(&self, request: u32, origin: &Origin) -> bool
+        ensures { result ≡ is_answered_by_authority no_address request origin.now self.now }
+    {
+        is_answered_by_authority(self.open.as_slice(), request, origin)
+    }
+
+    /// The connections that are authoritative for the origin and not busy, each with its basis, in the order of their
+    /// opening. NoMemory comes only where memory isn't found.
+    pub fn candidates(&self, alloc: Global, origin: &Origin) -> Result<Candidates, NoMemory>
+        ensures { IfOk result (λ free. free ≡ candidates no_address origin.now self.now) }
+    {
+        candidates(alloc, self.open.as_slice(), origin)
+    }
+
+    /// The best of them: one that was opened by an alternative and rests on it, else one with another basis, else any;
+    /// among equals the one that was opened earliest; None exactly where there is none. NoMemory comes only where memory
+    /// isn't found.
+    pub fn best(&self, alloc: Global, origin: &Origin) -> Result<Option<&OpenConnection>, NoMemory>
+        ensures { IfOk result (λ found. option_copied found ≡ best_connection no_address origin.now self.now) }
+    {
+        let free = self.candidates(alloc, origin)?;
+        Ok(maybe_of_number(self.open.as_slice(), best(&free)))
+    }
+}
+
+fn connection_among(connections: &[OpenConnection], number: u64) -> Option<&OpenConnection>
+    ensures { option_copied result ≡ connection_among connections.now number }
+{
+    connections
+        .iter()
+        .find(|connection| connection.made.number == number)
+}
+
+// The one of a number, if there is a number.
+fn maybe_of_number(connections: &[OpenConnection], number: Option<u64>) -> Option<&OpenConnection>
+    ensures { option_copied result ≡ option_and_then (connection_among connections.now) number }
+{
+    match number {
+        None => None,
+        Some(number) => connection_among(connections, number),
+    }
+}
+
+fn drop_connection(connections: &mut Vec<OpenConnection>, number: u64)
+    ensures { connections.new.items ≡ other_connections connections.old.items number }
+{
+    connections.retain(|connection| number != connection.made.number);
+}
+
+fn is_any_opened_by(connections: &[OpenConnection], origin: &Origin, route: &Route) -> bool
+    ensures { result ≡ list_any (is_opened_by origin.now route.now) connections.now }
+{
+    connections.iter().any(|c| same_origin(&c.made.origin, origin)
+        && same_route(&c.made.route, route))
+}
