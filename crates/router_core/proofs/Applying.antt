@@ -13,52 +13,86 @@ use Rattle.route_events.specs.Attempts.{attempts, pending, has_ended}
 use Rattle.route_events.specs.Connections.{open_connections}
 use Rattle.route_events.specs.Routes.{was_tried}
 use Rattle.route_events.specs.Step.{with_actions, newest_actions}
-use Rattle.route_events.proofs.Lists.{nat_eq-flip}
+use Rattle.route_events.proofs.Lists.{IsIn, nat_eq-flip}
 use Rattle.route_events.proofs.Quiet.{pending_more}
-use Rattle.router_core.specs.declared.tables.Tables.{Tables}
-use Rattle.router_core.specs.declared.waiting.Waiting.{Waiting}
-use Rattle.router_core.specs.OpenConnections.{kept_of, sent_on}
-use Rattle.router_core.specs.WaitingRequests.{is_tried, AreTried}
-use Rattle.router_core.specs.Tables.{Hold, after}
-use Rattle.router_core.proofs.Listing.{map_same_in, map_twice}
+use Rattle.route_events.specs.Records.{ConnectionRecord}
+use Rattle.route_events.specs.Authority.{record_of}
+use Rattle.route_choice.specs.Usable.{is_listed}
+use Rattle.request_dispatch.specs.declared.open_connection.OpenConnection.{OpenConnection}
+use Rattle.request_dispatch.specs.declared.tables.Tables.{Tables}
+use Rattle.request_dispatch.specs.declared.waiting.Waiting.{Waiting}
+use Rattle.request_dispatch.specs.AttemptTable.{started}
+use Rattle.request_dispatch.specs.RequestTable.{RequestTable}
+use Rattle.request_dispatch.specs.ConnectionTable.{said, sent_on}
+use Rattle.request_dispatch.proofs.Listing.{map_same_in, map_twice}
+use Rattle.router_core.specs.Holds.{Hold, AreTried}
 
-pub hold_open : (t : Tables) (j : Journal) (n : ℕ) (o : Origin) (r : Route) → ((m : ℕ) → length (attempts j) < m → has_ended j m ≡ false) → n ≡ t.opened + 1 → Hold t j → Hold (after t (OpenTo n o r)) (Taken (OpenTo n o r) ∷ j)
+-- an attempt that starts
+abbrev pub with_started : Origin → Route → Tables → Tables
+with_started o r t = record { attempts = started o r t.attempts; requests = t.requests; connections = t.connections }
+
+pub hold_open : (t : Tables) (j : Journal) (n : ℕ) (o : Origin) (r : Route) → ((m : ℕ) → length (attempts j) < m → has_ended j m ≡ false) → n ≡ t.attempts.opened + 1 → Hold t j → Hold (with_started o r t) (Taken (OpenTo n o r) ∷ j)
 hold_open t j n o r not_ended next hold =
     let a : Attempt = record { number = n; origin = o; route = r } in
     let count : n ≡ length (attempts j) + 1 = next ∙ ap (λ k. k + 1) hold.opened in
     let fresh : has_ended j n ≡ false = not_ended n (omega (arith, count)) in
     record {
-      opened = count ∙ sym (length-append (attempts j) (a ∷ []));
-      pending = ap (λ (as' : List Attempt). as' ++ a ∷ []) hold.pending ∙ sym (pending_more j n o r ∙ ap (λ b. pending j ++ cond (not b) (a ∷ []) []) fresh);
+      opened = sym next ∙ count ∙ sym (length-append (attempts j) (a ∷ []));
+      pending = (λ i. hold.pending i ++ record { number = sym next i; origin = o; route = r } ∷ []) ∙ sym (pending_more j n o r ∙ ap (λ b. pending j ++ cond (not b) (a ∷ []) []) fresh);
       connections = hold.connections;
     }
 
-sent_is : (j : Journal) (q conn : ℕ) (s : Option ℕ) (u : Option (Host × ℕ)) (c : Connection) → sent_on conn q (kept_of j c) ≡ kept_of (Taken (SendOn q conn s u) ∷ j) c
+-- a change of each connection of a table that says of itself what the longer journal says
+pub changed : (f : OpenConnection → OpenConnection) (g : ConnectionRecord → ConnectionRecord) (cs : List OpenConnection) (j k : Journal) (xs : List Connection) →
+    ((c : OpenConnection) → said (f c) ≡ g (said c)) → ((x : Connection) → IsIn x xs → g (record_of j x) ≡ record_of k x) → map said cs ≡ map (record_of j) xs → map said (map f cs) ≡ map (record_of k) xs
+changed f g cs j k xs says is hold =
+    map_twice said f cs
+    ∙ map_same_in (λ c. said (f c)) (λ c. g (said c)) cs (λ c found. says c)
+    ∙ sym (map_twice g said cs)
+    ∙ ap (map g) hold
+    ∙ map_twice g (record_of j) xs
+    ∙ map_same_in (λ x. g (record_of j x)) (record_of k) xs is
+
+-- a send, as a change of a record
+abbrev sent_record : ℕ → ℕ → ConnectionRecord → ConnectionRecord
+sent_record conn q r =
+    cond (nat_eq r.made.number conn) (record { made = r.made; bound = r.bound; gated = r.gated; holds = r.holds; misdirected = r.misdirected; outstanding = r.outstanding ++ q ∷ []; sends = r.sends + 1 }) r
+
+sent_says : (conn q : ℕ) (c : OpenConnection) → said (sent_on conn q c) ≡ sent_record conn q (said c)
+sent_says conn q c = by_test (nat_eq c.made.number conn) refl
+  where
+    by_test : (b : Bool) → nat_eq c.made.number conn ≡ b → said (sent_on conn q c) ≡ sent_record conn q (said c)
+    by_test true e = rw e refl
+    by_test false e = rw e refl
+
+sent_is : (j : Journal) (q conn : ℕ) (s : Option ℕ) (u : Option (Host × ℕ)) (c : Connection) → sent_record conn q (record_of j c) ≡ record_of (Taken (SendOn q conn s u) ∷ j) c
 sent_is j q conn s u c = by_test (nat_eq c.number conn) refl (nat_eq-flip conn c.number)
   where
-    by_test : (b : Bool) → nat_eq c.number conn ≡ b → nat_eq conn c.number ≡ nat_eq c.number conn → sent_on conn q (kept_of j c) ≡ kept_of (Taken (SendOn q conn s u) ∷ j) c
+    by_test : (b : Bool) → nat_eq c.number conn ≡ b → nat_eq conn c.number ≡ nat_eq c.number conn → sent_record conn q (record_of j c) ≡ record_of (Taken (SendOn q conn s u) ∷ j) c
     by_test true e flip = rw (flip, e) refl
     by_test false e flip = rw (flip, e) refl
 
-pub hold_send : (t : Tables) (j : Journal) (q conn : ℕ) (s : Option ℕ) (u : Option (Host × ℕ)) → Hold t j → Hold (after t (SendOn q conn s u)) (Taken (SendOn q conn s u) ∷ j)
-hold_send t j q conn s u hold = record {
+pub hold_send : (t : Tables) (j : Journal) (q conn : ℕ) (s : Option ℕ) (u : Option (Host × ℕ)) (requests : RequestTable) → Hold t j →
+    Hold (record { attempts = t.attempts; requests = requests; connections = map (sent_on conn q) t.connections }) (Taken (SendOn q conn s u) ∷ j)
+hold_send t j q conn s u requests hold = record {
   opened = hold.opened;
   pending = hold.pending;
-  connections =
-      ap (map (sent_on conn q)) hold.connections
-      ∙ map_twice (sent_on conn q) (kept_of j) (open_connections j)
-      ∙ map_same_in (λ c. sent_on conn q (kept_of j c)) (kept_of (Taken (SendOn q conn s u) ∷ j)) (open_connections j) (λ c found. sent_is j q conn s u c);
+  connections = changed (sent_on conn q) (sent_record conn q) t.connections j (Taken (SendOn q conn s u) ∷ j) (open_connections j) (sent_says conn q) (λ c found. sent_is j q conn s u c) hold.connections;
 }
 
-pub hold_refuse : (t : Tables) (j : Journal) (q : ℕ) → Hold t j → Hold (after t (Refuse q)) (Taken (Refuse q) ∷ j)
+pub hold_refuse : (t : Tables) (j : Journal) (q : ℕ) → Hold t j → Hold t (Taken (Refuse q) ∷ j)
 hold_refuse t j q hold = record { opened = hold.opened; pending = hold.pending; connections = hold.connections }
+
+-- the table of requests doesn't matter to the others
+pub hold_requests : (t : Tables) (j : Journal) (requests : RequestTable) → Hold t j → Hold (record { attempts = t.attempts; requests = requests; connections = t.connections }) j
+hold_requests t j requests hold = record { opened = hold.opened; pending = hold.pending; connections = hold.connections }
 
 -- no action ends an attempt
 pub tried_taken : (j : Journal) (a : Action) (ws : List Waiting) → AreTried j ws → AreTried (Taken a ∷ j) ws
 tried_taken j a [] h = tt
 tried_taken j a (w ∷ ws) h = (h.0, tried_taken j a ws h.1)
 
-pub tried_append : (j : Journal) (ws : List Waiting) (w : Waiting) → AreTried j ws → ((r : Route) → is_tried w r ≡ was_tried j w.request r) → AreTried j (ws ++ w ∷ [])
+pub tried_append : (j : Journal) (ws : List Waiting) (w : Waiting) → AreTried j ws → ((r : Route) → is_listed w.tried r ≡ was_tried j w.request r) → AreTried j (ws ++ w ∷ [])
 tried_append j [] w h own = (own, tt)
 tried_append j (x ∷ ws) w h own = (h.0, tried_append j ws w h.1 own)
 

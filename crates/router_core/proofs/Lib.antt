@@ -1,12 +1,12 @@
-mod Loops
-mod Bounds
-mod Listing
 mod Knowing
 mod Choosing
-mod Otherwise
 mod Applying
 mod SettlingSo
+mod LeftOut
 mod Effects
+mod Returning
 mod Answering
 mod Noting
+mod Bounds
 mod Steps
+mod Forgetting

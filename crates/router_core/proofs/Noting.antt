@@ -24,12 +24,12 @@ use Rattle.route_events.specs.Backoff.{Failures, no_failures, failed_at, failure
 use Rattle.route_events.specs.Connections.{outstanding}
 use Rattle.route_events.specs.Step.{with_actions, effects}
 use Rattle.route_events.proofs.Lists.{filter_same, filter_twice}
-use Rattle.router_core.specs.declared.tables.Tables.{Tables}
-use Rattle.router_core.specs.OpenConnections.{succeeds}
-use Rattle.router_core.specs.StepStates.{attempt_among}
-use Rattle.router_core.specs.Tables.{Hold}
+use Rattle.request_dispatch.specs.declared.tables.Tables.{Tables}
+use Rattle.request_dispatch.specs.AttemptTable.{attempt_among}
+use Rattle.request_dispatch.specs.Successes.{succeeds}
+use Rattle.request_dispatch.proofs.Listing.{filter_map}
+use Rattle.router_core.specs.Holds.{Hold}
 use Rattle.router_core.specs.Notes.{failure_noted, opening_noted, failures_noted, value_noted, kept_after}
-use Rattle.router_core.proofs.Listing.{filter_map}
 use Rattle.router_core.proofs.Answering.{IsAnswer, answer_is}
 
 -- failures
@@ -60,7 +60,7 @@ failing_capped : (j : Journal) (now m : ℕ) (o : Origin) (r : Route) (f : Failu
 failing_capped j now m o r f None e = rw e refl
 failing_capped j now m o r f (Some a) e = rw e (ended_capped now (is_on o r a) false f)
 
-noted_capped : (t : Tables) (j : Journal) (now : ℕ) (f : Fact) (o : Origin) (r : Route) (fs : Failures) → Hold t j → failures_noted t.pending now f o r (capped fs) ≡ capped (failures_after j o r now f fs)
+noted_capped : (t : Tables) (j : Journal) (now : ℕ) (f : Fact) (o : Origin) (r : Route) (fs : Failures) → Hold t j → failures_noted t.attempts.pending now f o r (capped fs) ≡ capped (failures_after j o r now f fs)
 noted_capped t j now (fact.Request n p) o r fs hold = refl
 noted_capped t j now (fact.Opened m p d port names) o r fs hold =
     ap (λ as'. opening_noted now (attempt_among as' m) p names o r (capped fs)) hold.pending ∙ opening_capped j now m p d port names o r fs (pending_attempt j m) refl
@@ -72,9 +72,9 @@ noted_capped t j now fact.Network o r fs hold = refl
 noted_capped t j now fact.Tick o r fs hold = refl
 
 pub failures_noted_are : (t : Tables) (j : Journal) (now : ℕ) (f : Fact) (o : Origin) (r : Route) (fs : Failures) → Hold t j → fs ≡ capped (failures j o r) →
-    failures_noted t.pending now f o r fs ≡ capped (failures (with_actions (Happened now f true ∷ j) (effects j now f)) o r)
+    failures_noted t.attempts.pending now f o r fs ≡ capped (failures (with_actions (Happened now f true ∷ j) (effects j now f)) o r)
 failures_noted_are t j now f o r fs hold e =
-    ap (failures_noted t.pending now f o r) e ∙ noted_capped t j now f o r (failures j o r) hold ∙ ap capped (sym (failures_with (Happened now f true ∷ j) (effects j now f) o r))
+    ap (failures_noted t.attempts.pending now f o r) e ∙ noted_capped t j now f o r (failures j o r) hold ∙ ap capped (sym (failures_with (Happened now f true ∷ j) (effects j now f) o r))
 
 -- alternatives
 

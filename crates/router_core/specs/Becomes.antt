@@ -7,18 +7,20 @@ use Rattle.network_cache.specs.Freshness.{is_fresh}
 use Rattle.route_choice.specs.Contents.{kept_failures}
 use Rattle.route_events.specs.declared.fact.Fact.{Fact}
 use Rattle.route_events.specs.declared.action.Action.{Action}
-use Rattle.route_events.specs.declared.route.Route.{Route}
+use Rattle.altsvc_grammar.specs.declared.alt_key.AltKey.{AltKey}
+use Rattle.route_events.specs.declared.route.Route.TheVariants.{Alt}
 use Rattle.route_events.specs.Alternatives.{age_in}
 use Rattle.router_core.specs.declared.router.Router.{Router}
-use Rattle.router_core.specs.declared.step_state.StepState.{StepState}
-use Rattle.router_core.specs.Looks.{Look, live_at, look_of}
+use Rattle.request_dispatch.specs.declared.step_state.StepState.{StepState}
+use Rattle.request_dispatch.specs.Looks.{Look, live_at, look_of}
+use Rattle.request_dispatch.specs.StepStates.{settled}
 use Rattle.router_core.specs.Reasons.{newest_after}
 use Rattle.router_core.specs.Notes.{failures_noted, value_noted, kept_after}
-use Rattle.router_core.specs.StepStates.{with_effect, settled}
+use Rattle.router_core.specs.Effects.{with_effect}
 
 -- the state of a step as it begins
 abbrev pub begun : Router → StepState
-begun router = record { tables = router.tables; waiting = router.waiting; sent = router.sent; actions = [] }
+begun router = record { tables = router.tables; actions = [] }
 
 -- the state after a fact and its effect
 abbrev pub after_effect : Router → ℕ → Fact → StepState
@@ -33,11 +35,9 @@ pub record Becomes (old new : Router) (actions : List Action) (now : ℕ) (fact 
   pub last : new.last ≡ now
   pub newest : new.newest ≡ newest_after old.newest fact
   -- failures are noted, and the value that was taken, before the requests are settled
-  pub failures : (o : Origin) (r : Route) → kept_failures new.broken o r ≡ failures_noted old.tables.pending now fact o r (kept_failures old.broken o r)
+  pub failures : (o : Origin) (key : AltKey) → kept_failures new.broken o (Alt key) ≡ failures_noted old.tables.attempts.pending now fact o (Alt key) (kept_failures old.broken o (Alt key))
   pub seen : Cache
   pub noted : (o : Origin) → kept seen o ≡ value_noted now (age_in fact) (after_effect old now fact).actions o (kept_after fact (kept old.alternatives o))
   pub purged : (o : Origin) → kept new.alternatives o ≡ filter (is_fresh now) (kept seen o)
   pub tables : new.tables ≡ (stepped old (look_of seen new.broken now) now fact).tables
-  pub waiting : new.waiting ≡ (stepped old (look_of seen new.broken now) now fact).waiting
-  pub sent : new.sent ≡ (stepped old (look_of seen new.broken now) now fact).sent
   pub written : actions ≡ (stepped old (look_of seen new.broken now) now fact).actions

@@ -1,10 +1,5 @@
-pub mod OpenConnections
-pub mod WaitingRequests
-pub mod Tables
-pub mod Looks
-pub mod SentRequests
-pub mod Choices
-pub mod StepStates
+pub mod Holds
+pub mod Effects
 pub mod Notes
 pub mod Reasons
 pub mod StandsFor

@@ -15,10 +15,11 @@ use Rattle.route_events.specs.declared.route.Route.{Route}
 use Rattle.route_events.specs.declared.attempt.Attempt.{Attempt}
 use Rattle.route_events.specs.Alternatives.{alternatives_of}
 use Rattle.route_events.specs.Backoff.{Failures, no_failures, failed_at, is_on}
-use Rattle.router_core.specs.OpenConnections.{succeeds}
-use Rattle.router_core.specs.StepStates.{attempt_among}
+use Rattle.request_dispatch.specs.AttemptTable.{attempt_among}
+use Rattle.request_dispatch.specs.Successes.{succeeds}
 
--- an attempt that succeeds ends the failures of its origin's route, and one that doesn't is one more
+-- an attempt that succeeds ends the failures of its origin's route, and one that doesn't is one more. Nothing is noted of
+-- the direct route, which no failure bars.
 abbrev pub end_noted : ℕ → Bool → Attempt → Origin → Route → Failures → Failures
 end_noted now success a o r f = if is_on o r a then (if success then no_failures else capped (failed_at now f)) else f
 

@@ -1,29 +1,25 @@
 -- Which journals a router stands for: what it keeps is what the journal says. It keeps nothing else, so that a router
 -- may forget what no later step can ask for.
-use Rattle.std.specs.Prelude.{◌≡◌, ◌≤◌, ℕ, List, map, Some, None}
+use Rattle.std.specs.Prelude.{◌≡◌, ◌≤◌, ℕ, List, filter, Some, None}
+use Rattle.altsvc_grammar.specs.declared.alt_key.AltKey.{AltKey}
 use Rattle.origin_values.specs.declared.origin.Origin.{Origin}
-use Rattle.network_cache.specs.Contents.{live}
+use Rattle.network_cache.specs.Contents.{kept, live}
+use Rattle.network_cache.specs.Freshness.{is_fresh}
 use Rattle.route_choice.specs.Capped.{capped}
 use Rattle.route_choice.specs.Contents.{kept_failures}
 use Rattle.route_events.specs.declared.fact.Fact.{Fact}
 use Rattle.route_events.specs.declared.action.Action.{Action}
-use Rattle.route_events.specs.declared.request.Request.{Request}
+use Rattle.route_events.specs.declared.route.Route.TheVariants.{Alt}
 use Rattle.route_events.specs.Journal.{Journal, step_count, newest_moment}
 use Rattle.route_events.specs.Requests.{newest_number, waiting}
-use Rattle.route_events.specs.declared.route.Route.{Route}
 use Rattle.route_events.specs.Alternatives.{live as journal_live}
 use Rattle.route_events.specs.Backoff.{failures}
 use Rattle.route_events.specs.Step.{IsRun, refusal, step, newest_actions}
+use Rattle.request_dispatch.specs.RequestTable.{requests_of}
 use Rattle.router_core.specs.declared.router.Router.{Router}
 use Rattle.router_core.specs.declared.fault.StepFault.{StepFault}
 use Rattle.router_core.specs.declared.fault.StepFault.TheVariants.{NoMemory, Refused}
-use Rattle.router_core.specs.declared.waiting.Waiting.{Waiting}
-use Rattle.router_core.specs.SentRequests.{AreSent}
-use Rattle.router_core.specs.WaitingRequests.{AreTried}
-use Rattle.router_core.specs.Tables.{Hold}
-
-abbrev pub requests_of : List Waiting → List Request
-requests_of ws = map (λ (w : Waiting). w.request) ws
+use Rattle.router_core.specs.Holds.{Hold, AreTried, AreOut}
 
 pub record StandsFor (router : Router) (journal : Journal) : Type 0 where
   -- the journal is one that a run gives
@@ -34,21 +30,23 @@ pub record StandsFor (router : Router) (journal : Journal) : Type 0 where
   pub newest : router.newest ≡ newest_number journal
   -- the pending attempts and the count of all, and the open connections with what is outstanding on them
   pub tables : Hold router.tables journal
-  -- the requests that wait, and on which routes each was tried since it arrived
-  pub waiting : requests_of router.waiting ≡ waiting journal
-  pub tried : AreTried journal router.waiting
-  -- the requests that are outstanding
-  pub sent : AreSent journal router.sent
-  -- at each moment from the newest on, the live alternatives of each origin
+  -- the requests that wait and those that are outstanding, and on which routes each was tried since it arrived
+  pub waiting : requests_of router.tables.requests.waiting ≡ waiting journal
+  pub tried : AreTried journal router.tables.requests.waiting
+  pub outstanding : AreOut journal router.tables.requests.outstanding
+  -- at each moment from the newest on, the live alternatives of each origin; none that has ended is kept
   pub alternatives : (o : Origin) (now : ℕ) → newest_moment journal ≤ now → live router.alternatives o now ≡ journal_live journal o now
-  -- the failures of each origin's route
-  pub failures : (o : Origin) (r : Route) → kept_failures router.broken o r ≡ capped (failures journal o r)
+  pub none_ended : (o : Origin) → filter (is_fresh router.last) (kept router.alternatives o) ≡ kept router.alternatives o
+  -- the failures of each origin's routes but the direct one, which no failure bars
+  pub failures : (o : Origin) (key : AltKey) → kept_failures router.broken o (Alt key) ≡ capped (failures journal o (Alt key))
 
 -- the step isn't refused, and gives these actions and this router
 pub record Takes (new : Router) (actions : List Action) (journal : Journal) (now : ℕ) (fact : Fact) : Type 0 where
   pub not_refused : refusal journal now fact ≡ None
   pub written : actions ≡ newest_actions (step journal now fact)
   pub stands : StandsFor new (step journal now fact)
+  -- from then on the newest step is this one
+  pub moment : newest_moment (step journal now fact) ≡ now
 
 -- the step is refused by the first reason, and the router is as it was
 abbrev pub Refuses : Router → ℕ → Fact → StepFault → Type 0

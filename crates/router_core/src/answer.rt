@@ -1,40 +1,19 @@
-ghost use Rattle.std.specs.Prelude.{◌≡◌, ◌∷◌, ◌++◌, ◌&&◌, [], IfOk, OnOk};
-ghost use Rattle.std.specs.List.{list_any};
+ghost use Rattle.std.specs.Prelude.{◌≡◌, ◌∷◌, ◌++◌, [], IfOk, OnOk, map};
 ghost use Rattle.std.specs.Option.{option_map_or};
 ghost use Rattle.altsvc_grammar.specs.ValueReading.{read_value};
-ghost use Rattle.route_events.specs.Alternatives.{alternatives_of};
-ghost use Rattle.route_events.specs.Advertisements.{is_one_of, value_of_reading, value_taken};
-ghost use Rattle.router_core.specs.OpenConnections.{authorises, without_request, rebound};
-ghost use Rattle.router_core.specs.SentRequests.{request_among};
-ghost use Rattle.router_core.specs.StepStates.{is_answered_by_authority, advertised, field_done, rebound_by, answered_so, answered};
+ghost use Rattle.route_events.specs.Advertisements.{value_of_reading, value_taken};
+ghost use Rattle.request_dispatch.specs.RequestTable.{request_among};
+ghost use Rattle.request_dispatch.specs.ConnectionTable.{without_request};
+ghost use Rattle.router_core.specs.Effects.{advertised, field_done, rebound_by, after_answer, answered_so, answered};
 
-use crate::open_connection::{OpenConnection, authorises, forget_request, is_secure, rebind};
-use crate::sent::{is_one_of, request_among, without_all};
-use crate::step_state::StepState;
 use alt_base::{Bytes, Duplicate, ListOf, NoMemory, Refused};
 use altsvc_grammar::{AltSvc, parse};
+use request_dispatch::{Connections, Outstanding, Requests, StepState, is_secure};
 use route_events::{Action, Actions, Request};
 use std::alloc::Global;
-use std::mem;
 
 /// The status of a response by a server that isn't the origin's (RFC 9110 15.5.20).
 const MISDIRECTED: u16 = 421;
-
-fn carries(connection: &OpenConnection, request: &Request) -> bool
-    ensures { result ≡ (is_one_of request.now.number connection.now.outstanding && authorises connection.now request.now.origin) }
-{
-    is_one_of(request.number, connection.outstanding.as_slice())
-        && authorises(connection, &request.origin)
-}
-
-// Whether the connection on which a request is outstanding is authoritative for its origin.
-fn is_answered_by_authority(connections: &[OpenConnection], request: &Request) -> bool
-    ensures { result ≡ is_answered_by_authority connections.now request.now }
-{
-    connections
-        .iter()
-        .any(|connection| carries(connection, request))
-}
 
 // A field that isn't taken, for a reason of its own.
 fn ignored(request: u32, reason: u8) -> Action
@@ -74,7 +53,7 @@ fn read_field(alloc: Global, request: &Request, value: &[u8]) -> Result<Action, 
 // What is done for the Alt-Svc of a response.
 fn advertised(
     alloc: Global,
-    connections: &[OpenConnection],
+    connections: &Connections,
     status: u16,
     request: &Request,
     value: &[u8],
@@ -87,7 +66,7 @@ fn advertised(
     if !is_secure(request.origin.scheme) {
         return Ok(ignored(request.number, 12));
     }
-    if !is_answered_by_authority(connections, request) {
+    if !connections.is_answered_by_authority(request.number, &request.origin) {
         return Ok(ignored(request.number, 13));
     }
     value_taken(alloc, request, value)
@@ -95,15 +74,16 @@ fn advertised(
 
 fn field_done(
     alloc: Global,
-    connections: &[OpenConnection],
+    connections: &Connections,
     status: u16,
     altsvc: &Option<Bytes>,
-    request: &Request,
+    answered: &Outstanding,
 ) -> Result<Actions, NoMemory>
-    ensures { IfOk result (λ actions. actions ≡ field_done connections.now status altsvc.now request.now) }
+    ensures { IfOk result (λ actions. actions ≡ field_done connections.now status altsvc.now answered.now) }
 {
     let mut actions = ListOf::new(alloc);
     if let Some(value) = altsvc {
+        let request = &answered.request;
         actions.push(advertised(alloc, connections, status, request, value.as_slice())?)?;
     }
     Ok(actions)
@@ -116,30 +96,40 @@ fn answer_actions(
     status: u16,
     altsvc: &Option<Bytes>,
 ) -> Result<Actions, NoMemory>
-    ensures { IfOk result (λ actions. actions ≡ option_map_or (field_done state.now.tables.connections status altsvc.now) (request_among state.now.sent request) []) }
+    ensures { IfOk result (λ actions. actions ≡ option_map_or (field_done state.now.tables.connections status altsvc.now) (request_among state.now.tables.requests.outstanding request) []) }
 {
-    match request_among(state.sent.as_slice(), request) {
+    match state.tables.requests.of_number(request) {
         None => Ok(ListOf::new(alloc)),
-        Some(found) => field_done(
-            alloc,
-            state.tables.connections.as_slice(),
-            status,
-            altsvc,
-            found,
-        ),
+        Some(found) => field_done(alloc, &state.tables.connections, status, altsvc, found),
     }
 }
 
 // A value that was taken, for the connections.
-fn rebind_by(actions: &[Action], connections: &mut [OpenConnection])
+fn rebind_by(actions: &[Action], connections: &mut Connections)
     ensures { connections.new ≡ rebound_by actions.now connections.old }
 {
     if let Some(Action::Alternatives { origin, value }) = actions.first() {
         match value {
-            AltSvc::Clear => rebind(connections, origin, &[]),
-            AltSvc::List(alts) => rebind(connections, origin, alts.as_slice()),
+            AltSvc::Clear => connections.rebind(origin, &[]),
+            AltSvc::List(alts) => connections.rebind(origin, alts.as_slice()),
         }
     }
+}
+
+// The request ends, or waits again.
+fn end_or_send_back(
+    alloc: Global,
+    requests: &mut Requests,
+    request: u32,
+    status: u16,
+) -> Result<(), NoMemory>
+    ensures { OnOk result (requests.new ≡ after_answer request status requests.old) }
+{
+    if status == MISDIRECTED {
+        return requests.send_back(alloc, request);
+    }
+    requests.lose(&[request]);
+    Ok(())
 }
 
 fn append_actions(actions: &mut Actions, more: Actions) -> Result<(), NoMemory>
@@ -162,12 +152,8 @@ pub(crate) fn answer(
     ensures { OnOk result (state.new ≡ answered state.old request status altsvc) }
 {
     let actions = answer_actions(alloc, state, request, status, &altsvc)?;
-    let connections = mem::replace(&mut state.tables.connections, ListOf::new(alloc));
-    let mut left = connections.into_vec();
-    forget_request(alloc, &mut left, request);
-    rebind_by(actions.as_slice(), &mut left);
-    state.tables.connections = ListOf::from_vec(left);
-    let sent = mem::replace(&mut state.sent, ListOf::new(alloc));
-    state.sent = without_all(sent, &[request]);
+    state.tables.connections.note_answer(alloc, request);
+    rebind_by(actions.as_slice(), &mut state.tables.connections);
+    end_or_send_back(alloc, &mut state.tables.requests, request, status)?;
     append_actions(&mut state.actions, actions)
 }

@@ -1,22 +1,19 @@
 ghost use Rattle.std.specs.Prelude.{◌≡◌, ◌≤◌, ◌++◌, map, OnOk};
 ghost use Rattle.network_cache.specs.Contents.{newest_moment};
-ghost use Rattle.std.specs.Option.{option_copied};
 ghost use Rattle.route_events.specs.declared.action.Action.TheVariants.{Lost as LostAction};
-ghost use Rattle.router_core.specs.Looks.{live_at};
-ghost use Rattle.router_core.specs.StepStates.{attempt_among, other_attempts, connection_among, other_connections, out_on, arrived, ended, opened, closed, with_effect, with_end, with_connection};
+ghost use Rattle.request_dispatch.specs.AttemptTable.{attempt_among};
+ghost use Rattle.request_dispatch.specs.ConnectionTable.{connection_among, out_on};
+ghost use Rattle.request_dispatch.specs.Looks.{live_at};
+ghost use Rattle.router_core.specs.Effects.{arrived, ended, opened, closed, with_effect, with_end, with_connection};
 
 use crate::answer::answer;
-use crate::open_connection::{OpenConnection, gives, is_success};
-use crate::sent::without_all;
-use crate::step_state::StepState;
-use crate::waiting::{Waiting, note_end};
-use alt_base::{Duplicate, ListOf, Moment, NoMemory};
+use alt_base::{Duplicate, Moment, NoMemory};
 use coalescing::CertNames;
 use network_cache::Cache;
 use origin_values::{Addr, Origin, Proto};
-use route_events::{Action, Actions, Attempt, Connection, Fact, Request};
+use request_dispatch::{Connections, StepState, gives, is_success};
+use route_events::{Action, Actions, Attempt, Connection, Fact};
 use std::alloc::Global;
-use std::mem;
 
 // What an opening told.
 #[derive(Debug, Drop)]
@@ -27,77 +24,27 @@ struct Opening {
     names: CertNames,
 }
 
-pub(crate) fn attempt_among(attempts: &[Attempt], number: u64) -> Option<&Attempt>
-    ensures { option_copied result ≡ attempt_among attempts.now number }
-{
-    attempts.iter().find(|attempt| attempt.number == number)
-}
-
-fn other_attempts(attempts: ListOf<Attempt>, number: u64) -> ListOf<Attempt>
-    ensures { result ≡ other_attempts attempts number }
-{
-    let mut others = attempts.into_vec();
-    drop_attempt(&mut others, number);
-    ListOf::from_vec(others)
-}
-
-fn drop_attempt(attempts: &mut Vec<Attempt>, number: u64)
-    ensures { attempts.new.items ≡ other_attempts attempts.old.items number }
-{
-    attempts.retain(|attempt| number != attempt.number);
-}
-
-pub(crate) fn connection_among(
-    connections: &[OpenConnection],
-    number: u64,
-) -> Option<&OpenConnection>
-    ensures { option_copied result ≡ connection_among connections.now number }
-{
-    connections
-        .iter()
-        .find(|connection| connection.made.number == number)
-}
-
-fn other_connections(connections: ListOf<OpenConnection>, number: u64) -> ListOf<OpenConnection>
-    ensures { result ≡ other_connections connections number }
-{
-    let mut others = connections.into_vec();
-    drop_connection(&mut others, number);
-    ListOf::from_vec(others)
-}
-
-fn drop_connection(connections: &mut Vec<OpenConnection>, number: u64)
-    ensures { connections.new.items ≡ other_connections connections.old.items number }
-{
-    connections.retain(|connection| number != connection.made.number);
-}
-
 fn arrive(alloc: Global, state: &mut StepState, number: u32, origin: Origin) -> Result<(), NoMemory>
     ensures { OnOk result (state.new ≡ arrived state.old number origin) }
 {
-    state.waiting.push(Waiting {
-        request: Request { number, origin },
-        tried: ListOf::new(alloc),
-    })?;
-    Ok(())
+    state.tables.requests.arrive(alloc, number, origin)
 }
 
 // An attempt ends: it isn't pending any more, and each waiting request of its origin has tried its route.
 fn end_attempt(alloc: Global, state: &mut StepState, attempt: &Attempt) -> Result<(), NoMemory>
     ensures { OnOk result (state.new ≡ with_end state.old attempt.now) }
 {
-    let pending = mem::replace(&mut state.tables.pending, ListOf::new(alloc));
-    state.tables.pending = other_attempts(pending, attempt.number);
-    let mut waiting = mem::replace(&mut state.waiting, ListOf::new(alloc)).into_vec();
-    note_end(alloc, &mut waiting, &attempt.origin, &attempt.route)?;
-    state.waiting = ListOf::from_vec(waiting);
-    Ok(())
+    state.tables.attempts.end(attempt.number);
+    state
+        .tables
+        .requests
+        .note_end(alloc, &attempt.origin, &attempt.route)
 }
 
 fn fail(alloc: Global, state: &mut StepState, number: u64) -> Result<(), NoMemory>
-    ensures { OnOk result (state.new ≡ ended state.old (attempt_among state.old.tables.pending number)) }
+    ensures { OnOk result (state.new ≡ ended state.old (attempt_among state.old.tables.attempts.pending number)) }
 {
-    let found = match attempt_among(state.tables.pending.as_slice(), number) {
+    let found = match state.tables.attempts.of_number(number) {
         None => return Ok(()),
         Some(attempt) => attempt.copy(alloc)?,
     };
@@ -116,13 +63,7 @@ fn keep_connection(
 {
     let live = cache.live(alloc, now, &made.origin)?;
     let bound = is_success(&made) && gives(live.as_slice(), &made.route);
-    state.tables.connections.push(OpenConnection {
-        made,
-        bound,
-        outstanding: ListOf::new(alloc),
-        sends: 0,
-    })?;
-    Ok(())
+    state.tables.connections.open(alloc, made, bound)
 }
 
 fn open(
@@ -134,9 +75,9 @@ fn open(
     opening: Opening,
 ) -> Result<(), NoMemory>
     requires { newest_moment cache.now ≤ now.0 }
-    ensures { OnOk result (state.new ≡ opened (live_at cache.now now.0) state.old (attempt_among state.old.tables.pending number) opening.proto opening.addr opening.port opening.names) }
+    ensures { OnOk result (state.new ≡ opened (live_at cache.now now.0) state.old (attempt_among state.old.tables.attempts.pending number) opening.proto opening.addr opening.port opening.names) }
 {
-    let found = match attempt_among(state.tables.pending.as_slice(), number) {
+    let found = match state.tables.attempts.of_number(number) {
         None => return Ok(()),
         Some(attempt) => attempt.copy(alloc)?,
     };
@@ -162,24 +103,22 @@ fn lose_all(actions: &mut Actions, requests: &[u32]) -> Result<(), NoMemory>
     Ok(())
 }
 
-fn outstanding_on(connections: &[OpenConnection], conn: u64) -> &[u32]
+fn outstanding_on(connections: &Connections, conn: u64) -> &[u32]
     ensures { result.now ≡ out_on (connection_among connections.now conn) }
 {
-    match connection_among(connections, conn) {
+    match connections.of_number(conn) {
         None => &[],
         Some(connection) => connection.outstanding.as_slice(),
     }
 }
 
-fn close(alloc: Global, state: &mut StepState, conn: u64) -> Result<(), NoMemory>
+fn close(state: &mut StepState, conn: u64) -> Result<(), NoMemory>
     ensures { OnOk result (state.new ≡ closed state.old conn) }
 {
-    let out = outstanding_on(state.tables.connections.as_slice(), conn);
+    let out = outstanding_on(&state.tables.connections, conn);
     lose_all(&mut state.actions, out)?;
-    let sent = mem::replace(&mut state.sent, ListOf::new(alloc));
-    state.sent = without_all(sent, out);
-    let connections = mem::replace(&mut state.tables.connections, ListOf::new(alloc));
-    state.tables.connections = other_connections(connections, conn);
+    state.tables.requests.lose(out);
+    state.tables.connections.close(conn);
     Ok(())
 }
 
@@ -216,7 +155,7 @@ pub(crate) fn take_fact(
             },
         ),
         Fact::Failed { attempt } => fail(alloc, state, attempt),
-        Fact::Closed { conn } => close(alloc, state, conn),
+        Fact::Closed { conn } => close(state, conn),
         Fact::Response {
             request,
             status,

@@ -2,18 +2,13 @@
 #![tactic(auto)]
 
 mod answer;
-mod choice;
 mod effect;
 mod fault;
+mod laws;
 mod notes;
-mod open_connection;
 mod reason;
 mod router;
-mod sent;
-mod settling;
-mod step_state;
-mod tables;
-mod waiting;
 
 pub use fault::StepFault;
+pub use laws::alike_histories;
 pub use router::Router;

@@ -5,18 +5,18 @@ ghost use Rattle.origin_values.specs.declared.origin.Origin.{Origin as OriginVal
 ghost use Rattle.network_cache.specs.Contents.{kept, newest_moment};
 ghost use Rattle.route_choice.specs.Contents.{kept_failures, newest_moment as newest_failure};
 ghost use Rattle.route_events.specs.Alternatives.{age_in};
-ghost use Rattle.route_events.specs.declared.route.Route.{Route as RouteValue};
+ghost use Rattle.altsvc_grammar.specs.declared.alt_key.AltKey.{AltKey as AltKeyValue};
+ghost use Rattle.route_events.specs.declared.route.Route.TheVariants.{Alt as AltRoute};
 ghost use Rattle.router_core.specs.Notes.{end_noted, failure_noted, opening_noted, failures_noted, value_noted, is_change};
 
-use crate::effect::attempt_among;
-use crate::open_connection::succeeds;
 use alt_base::{Duplicate, Moment, NoMemory};
 use altsvc_grammar::AltSvc;
 use coalescing::CertNames;
 use network_cache::Cache;
 use origin_values::Proto;
+use request_dispatch::{Attempts, succeeds};
 use route_choice::Broken;
-use route_events::{Action, Attempt, Fact};
+use route_events::{Action, Attempt, Fact, Route};
 use std::alloc::Global;
 
 /// The age of the value that a fact brings.
@@ -29,15 +29,15 @@ pub(crate) fn age_in(fact: &Fact) -> u32
     }
 }
 
-// One more failure, or none any more.
-fn note_end(
+// One more failure of an origin's route, or none any more.
+fn note_end_by_alternative(
     broken: &mut Broken,
     now: Moment,
     attempt: &Attempt,
     success: bool,
 ) -> Result<(), NoMemory>
     requires { newest_failure broken.old ≤ now.0 }
-    ensures failures { OnOk result ((o : OriginValue) (r : RouteValue) → kept_failures broken.new o r ≡ end_noted now.0 success attempt.now o r (kept_failures broken.old o r)) }
+    ensures failures { OnOk result ((o : OriginValue) (key : AltKeyValue) → kept_failures broken.new o (AltRoute key) ≡ end_noted now.0 success attempt.now o (AltRoute key) (kept_failures broken.old o (AltRoute key))) }
     ensures moment { OnOk result (newest_failure broken.new ≤ now.0) }
 {
     if success {
@@ -45,6 +45,23 @@ fn note_end(
         return Ok(());
     }
     broken.failed(now, &attempt.origin, &attempt.route)
+}
+
+// The same, where the route isn't the direct one: nothing is noted of that, since no failure bars it.
+fn note_end(
+    broken: &mut Broken,
+    now: Moment,
+    attempt: &Attempt,
+    success: bool,
+) -> Result<(), NoMemory>
+    requires { newest_failure broken.old ≤ now.0 }
+    ensures failures { OnOk result ((o : OriginValue) (key : AltKeyValue) → kept_failures broken.new o (AltRoute key) ≡ end_noted now.0 success attempt.now o (AltRoute key) (kept_failures broken.old o (AltRoute key))) }
+    ensures moment { OnOk result (newest_failure broken.new ≤ now.0) }
+{
+    match &attempt.route {
+        Route::Direct => Ok(()),
+        Route::Alt(_) => note_end_by_alternative(broken, now, attempt, success),
+    }
 }
 
 fn note_opening(
@@ -55,7 +72,7 @@ fn note_opening(
     names: &CertNames,
 ) -> Result<(), NoMemory>
     requires { newest_failure broken.old ≤ now.0 }
-    ensures failures { OnOk result ((o : OriginValue) (r : RouteValue) → kept_failures broken.new o r ≡ opening_noted now.0 (option_copied attempt.entry) proto names.now o r (kept_failures broken.old o r)) }
+    ensures failures { OnOk result ((o : OriginValue) (key : AltKeyValue) → kept_failures broken.new o (AltRoute key) ≡ opening_noted now.0 (option_copied attempt.entry) proto names.now o (AltRoute key) (kept_failures broken.old o (AltRoute key))) }
     ensures moment { OnOk result (newest_failure broken.new ≤ now.0) }
 {
     match attempt {
@@ -71,7 +88,7 @@ fn note_opening(
 
 fn note_failure(broken: &mut Broken, now: Moment, attempt: Option<&Attempt>) -> Result<(), NoMemory>
     requires { newest_failure broken.old ≤ now.0 }
-    ensures failures { OnOk result ((o : OriginValue) (r : RouteValue) → kept_failures broken.new o r ≡ failure_noted now.0 (option_copied attempt.entry) o r (kept_failures broken.old o r)) }
+    ensures failures { OnOk result ((o : OriginValue) (key : AltKeyValue) → kept_failures broken.new o (AltRoute key) ≡ failure_noted now.0 (option_copied attempt.entry) o (AltRoute key) (kept_failures broken.old o (AltRoute key))) }
     ensures moment { OnOk result (newest_failure broken.new ≤ now.0) }
 {
     match attempt {
@@ -84,11 +101,11 @@ fn note_failure(broken: &mut Broken, now: Moment, attempt: Option<&Attempt>) -> 
 pub(crate) fn note_failures(
     broken: &mut Broken,
     now: Moment,
-    pending: &[Attempt],
+    attempts: &Attempts,
     fact: &Fact,
 ) -> Result<(), NoMemory>
     requires { newest_failure broken.old ≤ now.0 }
-    ensures failures { OnOk result ((o : OriginValue) (r : RouteValue) → kept_failures broken.new o r ≡ failures_noted pending.now now.0 fact.now o r (kept_failures broken.old o r)) }
+    ensures failures { OnOk result ((o : OriginValue) (key : AltKeyValue) → kept_failures broken.new o (AltRoute key) ≡ failures_noted attempts.now.pending now.0 fact.now o (AltRoute key) (kept_failures broken.old o (AltRoute key))) }
     ensures moment { OnOk result (newest_failure broken.new ≤ now.0) }
 {
     match fact {
@@ -97,8 +114,8 @@ pub(crate) fn note_failures(
             proto,
             names,
             ..
-        } => note_opening(broken, now, attempt_among(pending, *attempt), *proto, names),
-        Fact::Failed { attempt } => note_failure(broken, now, attempt_among(pending, *attempt)),
+        } => note_opening(broken, now, attempts.of_number(*attempt), *proto, names),
+        Fact::Failed { attempt } => note_failure(broken, now, attempts.of_number(*attempt)),
         Fact::Network => {
             broken.network();
             Ok(())

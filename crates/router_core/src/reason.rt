@@ -1,13 +1,12 @@
 ghost use Rattle.std.specs.Prelude.{◌≡◌, is_some, if◌then◌else◌};
 ghost use Rattle.router_core.specs.Reasons.{reason_of_fact, reason_of, newest_after};
-ghost use Rattle.router_core.specs.SentRequests.{request_among};
-ghost use Rattle.router_core.specs.StepStates.{attempt_among, connection_among};
+ghost use Rattle.request_dispatch.specs.AttemptTable.{attempt_among};
+ghost use Rattle.request_dispatch.specs.ConnectionTable.{connection_among};
+ghost use Rattle.request_dispatch.specs.RequestTable.{request_among};
 
-use crate::effect::{attempt_among, connection_among};
-use crate::sent::request_among;
-use crate::tables::Tables;
-use alt_base::{ListOf, Moment};
-use route_events::{Fact, Request, StepRefusal};
+use alt_base::Moment;
+use request_dispatch::Tables;
+use route_events::{Fact, StepRefusal};
 
 /// The most facts that one router takes.
 pub(crate) const MOST_FACTS: u32 = 16_777_215;
@@ -29,31 +28,26 @@ fn unless(holds: bool, refusal: StepRefusal) -> Option<StepRefusal>
 }
 
 fn is_pending(tables: &Tables, attempt: u64) -> bool
-    ensures { result ≡ is_some (attempt_among tables.now.pending attempt) }
+    ensures { result ≡ is_some (attempt_among tables.now.attempts.pending attempt) }
 {
-    attempt_among(tables.pending.as_slice(), attempt).is_some()
+    tables.attempts.of_number(attempt).is_some()
 }
 
 fn is_open(tables: &Tables, conn: u64) -> bool
     ensures { result ≡ is_some (connection_among tables.now.connections conn) }
 {
-    connection_among(tables.connections.as_slice(), conn).is_some()
+    tables.connections.of_number(conn).is_some()
 }
 
-fn is_outstanding(sent: &ListOf<Request>, request: u32) -> bool
-    ensures { result ≡ is_some (request_among sent.now request) }
+fn is_outstanding(tables: &Tables, request: u32) -> bool
+    ensures { result ≡ is_some (request_among tables.now.requests.outstanding request) }
 {
-    request_among(sent.as_slice(), request).is_some()
+    tables.requests.of_number(request).is_some()
 }
 
 // Why a fact isn't taken, by the fact alone.
-fn reason_of_fact(
-    newest: u32,
-    tables: &Tables,
-    sent: &ListOf<Request>,
-    fact: &Fact,
-) -> Option<StepRefusal>
-    ensures { result ≡ reason_of_fact newest tables.now sent.now fact.now }
+fn reason_of_fact(newest: u32, tables: &Tables, fact: &Fact) -> Option<StepRefusal>
+    ensures { result ≡ reason_of_fact newest tables.now fact.now }
 {
     match fact {
         Fact::Request { number, .. } => unless(
@@ -68,7 +62,7 @@ fn reason_of_fact(
         }
         Fact::Closed { conn } => unless(is_open(tables, *conn), StepRefusal::NoSuchConn),
         Fact::Response { request, .. } => {
-            unless(is_outstanding(sent, *request), StepRefusal::NoSuchRequest)
+            unless(is_outstanding(tables, *request), StepRefusal::NoSuchRequest)
         }
         Fact::Network | Fact::Tick => None,
     }
@@ -80,11 +74,10 @@ pub(crate) fn reason_of(
     last: u32,
     newest: u32,
     tables: &Tables,
-    sent: &ListOf<Request>,
     now: Moment,
     fact: &Fact,
 ) -> Option<StepRefusal>
-    ensures { result ≡ reason_of facts last newest tables.now sent.now now.0 fact.now }
+    ensures { result ≡ reason_of facts last newest tables.now now.0 fact.now }
 {
     if facts == MOST_FACTS {
         return Some(StepRefusal::Spent { facts });
@@ -92,5 +85,5 @@ pub(crate) fn reason_of(
     if now.0 < last {
         return Some(StepRefusal::TimeBack { last: Moment(last) });
     }
-    reason_of_fact(newest, tables, sent, fact)
+    reason_of_fact(newest, tables, fact)
 }

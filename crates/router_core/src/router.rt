@@ -1,20 +1,17 @@
 ghost use Rattle.std.specs.Prelude.{◌≡◌, ◌≤◌, ◌<◌, ◌+◌, ◌*◌, [], ℕ, length, IfOk, IfErr};
 ghost use Rattle.network_cache.specs.Contents.{newest_moment};
 ghost use Rattle.route_choice.specs.Contents.{newest_moment as newest_failure};
-ghost use Rattle.router_core.specs.OpenConnections.{most_sends};
+ghost use Rattle.request_dispatch.specs.ConnectionTable.{most_sends};
 
 use crate::StepFault;
 use crate::effect::take_fact;
 use crate::notes::{age_in, is_change, note_change, note_failures, note_value};
 use crate::reason::{newest_after, reason_of};
-use crate::settling::settle;
-use crate::step_state::StepState;
-use crate::tables::Tables;
-use crate::waiting::Waiting;
 use alt_base::{ListOf, Moment};
 use network_cache::Cache;
+use request_dispatch::{Attempts, Connections, Requests, StepState, Tables, settle};
 use route_choice::Broken;
-use route_events::{Actions, Fact, Request};
+use route_events::{Actions, Fact};
 use std::alloc::Global;
 
 /// The client. It is told what happened, step by step, and answers what to do.
@@ -25,13 +22,11 @@ pub struct Router {
     last: u32,
     newest: u32,
     tables: Tables,
-    waiting: ListOf<Waiting>,
-    sent: ListOf<Request>,
     alternatives: Cache,
     broken: Broken,
     ghost bounded: { facts ≤ 16777215 },
-    ghost few_sends: { most_sends tables.connections + length waiting ≤ facts },
-    ghost few_attempts: { tables.opened ≤ facts * 16777216 },
+    ghost few_sends: { most_sends tables.connections + length tables.requests.waiting ≤ facts },
+    ghost few_attempts: { tables.attempts.opened ≤ facts * 16777216 },
     ghost alternatives_known: { newest_moment alternatives ≤ last },
     ghost failures_known: { newest_failure broken ≤ last },
 }
@@ -60,12 +55,10 @@ impl Router {
             last: 0,
             newest: 0,
             tables: Tables {
-                opened: 0,
-                pending: ListOf::new(alloc),
-                connections: ListOf::new(alloc),
+                attempts: Attempts::new(alloc),
+                requests: Requests::new(alloc),
+                connections: Connections::new(alloc),
             },
-            waiting: ListOf::new(alloc),
-            sent: ListOf::new(alloc),
             alternatives: Cache::new(alloc),
             broken: Broken::new(alloc),
         }
@@ -88,15 +81,7 @@ impl Router {
         ensures refused_only_where { IfOk result (λ r. (journal : Journal) → StandsFor self journal → RefusesOnlyWhere (step journal now.0 fact)) }
         ensures waits_only_for { IfOk result (λ r. (journal : Journal) → StandsFor self journal → WaitsOnlyFor (step journal now.0 fact)) }
     {
-        let reason = reason_of(
-            self.facts,
-            self.last,
-            self.newest,
-            &self.tables,
-            &self.sent,
-            now,
-            &fact,
-        );
+        let reason = reason_of(self.facts, self.last, self.newest, &self.tables, now, &fact);
         if let Some(refusal) = reason {
             return Err(StepFault::Refused {
                 router: self,
@@ -110,6 +95,7 @@ impl Router {
     /// is live. It takes no memory.
     pub fn alternatives(&self) -> &Cache
         ensures live { (journal : Journal) → StandsFor self.now journal → (o : OriginValue) (at : ℕ) → newest_step journal ≤ at → live result.now o at ≡ journal_live journal o at }
+        ensures moment { (journal : Journal) → StandsFor self.now journal → newest_moment result.now ≤ newest_step journal }
     {
         &self.alternatives
     }
@@ -118,13 +104,14 @@ impl Router {
     /// takes no memory.
     pub fn broken(&self) -> &Broken
         ensures broken { (journal : Journal) → StandsFor self.now journal → (o : OriginValue) (r : RouteValue) (at : ℕ) → is_barred_by (kept_failures result.now o r) r at ≡ is_broken journal o r at }
+        ensures moment { (journal : Journal) → StandsFor self.now journal → newest_failure result.now ≤ newest_step journal }
     {
         &self.broken
     }
 
     // A step that isn't refused.
     fn take(self, now: Moment, fact: Fact) -> Result<(Router, Actions), StepFault>
-        requires { reason_of self.facts self.last self.newest self.tables self.sent now.0 fact ≡ None }
+        requires { reason_of self.facts self.last self.newest self.tables now.0 fact ≡ None }
         ensures ok { IfOk result (λ r. Becomes self r.0 r.1 now.0 fact) }
         ensures err { IfErr result (λ fault. fault ≡ StepFault.NoMemory) }
     {
@@ -137,29 +124,20 @@ impl Router {
             last: _,
             newest: _,
             tables,
-            waiting,
-            sent,
             mut alternatives,
             mut broken,
         } = self;
         let mut state = StepState {
             tables,
-            waiting,
-            sent,
             actions: ListOf::new(alloc),
         };
-        note_failures(&mut broken, now, state.tables.pending.as_slice(), &fact)?;
+        note_failures(&mut broken, now, &state.tables.attempts, &fact)?;
         take_fact(alloc, &alternatives, now, &mut state, fact)?;
         note_change(&mut alternatives, changed);
         note_value(alloc, &mut alternatives, now, age, state.actions.as_slice())?;
         settle(alloc, &alternatives, &broken, now, &mut state)?;
         alternatives.purge(now);
-        let StepState {
-            tables,
-            waiting,
-            sent,
-            actions,
-        } = state;
+        let StepState { tables, actions } = state;
         Ok((
             Router {
                 alloc,
@@ -167,8 +145,6 @@ impl Router {
                 last: now.0,
                 newest,
                 tables,
-                waiting,
-                sent,
                 alternatives,
                 broken,
             },

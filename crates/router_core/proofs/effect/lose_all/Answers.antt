@@ -1,7 +1,7 @@
 use Rattle.std.proofs.Common.{◌++◌, ◌∷◌, [], ap, ◌∙◌, sym, append_assoc, map, take, get_or, List}
 use Rattle.route_events.specs.declared.action.Action.{Action}
 use Rattle.route_events.specs.declared.action.Action.TheVariants.{Lost}
-use Rattle.router_core.proofs.Loops.{map_more}
+use Rattle.request_dispatch.proofs.Loops.{map_more}
 use Rattle.router_core.proofs.effect.lose_all.Goals as goal
 
 pub loop-request-preserved : goal.loop-request-preserved

@@ -1,10 +1,12 @@
-use Rattle.std.proofs.Common.{refl, ap, [], sym, subst}
+use Rattle.std.proofs.Common.{refl, ap, [], sym, ◌∙◌, subst, map, filter}
+use Rattle.network_cache.specs.Freshness.{is_fresh}
 use Rattle.route_events.specs.Step.{Begun}
-use Rattle.router_core.specs.SentRequests.{AreSent}
-use Rattle.router_core.specs.WaitingRequests.{AreTried}
-use Rattle.router_core.specs.StandsFor.{requests_of}
+use Rattle.request_dispatch.specs.AttemptTable.{AttemptTable}
+use Rattle.request_dispatch.specs.ConnectionTable.{said}
+use Rattle.request_dispatch.specs.RequestTable.{RequestTable, requests_of}
+use Rattle.router_core.specs.Holds.{AreTried, AreOut}
 use Rattle.router_core.proofs.Noting.{fresh_alts}
-use Rattle.router_core.proofs.SettlingSo.{none_sent}
+use Rattle.router_core.proofs.SettlingSo.{none_out}
 use Rattle.router_core.proofs.router.Router.new.Goals as goal
 
 pub returns : goal.returns
@@ -13,10 +15,11 @@ returns c = record {
   facts = refl;
   last = refl;
   newest = refl;
-  tables = record { opened = refl; pending = c.new.ensures; connections = c.new-2.ensures };
-  waiting = ap requests_of c.new-3.ensures;
-  tried = subst (AreTried []) (sym c.new-3.ensures) tt;
-  sent = subst (AreSent []) (sym c.new-4.ensures) none_sent;
-  alternatives = λ o at h. ap (fresh_alts at) (c.new-5.ensures.nothing o);
-  failures = λ o r. c.new-6.ensures.nothing o r;
+  tables = record { opened = ap (λ (t : AttemptTable). t.opened) c.new.ensures; pending = ap (λ (t : AttemptTable). t.pending) c.new.ensures; connections = ap (map said) c.new-3.ensures };
+  waiting = ap (λ (t : RequestTable). requests_of t.waiting) c.new-2.ensures;
+  tried = subst (λ (t : RequestTable). AreTried [] t.waiting) (sym c.new-2.ensures) tt;
+  outstanding = subst (λ (t : RequestTable). AreOut [] t.outstanding) (sym c.new-2.ensures) none_out;
+  alternatives = λ o at h. ap (fresh_alts at) (c.new-4.ensures.nothing o);
+  none_ended = λ o. ap (filter (is_fresh 0)) (c.new-4.ensures.nothing o) ∙ sym (c.new-4.ensures.nothing o);
+  failures = λ o key. c.new-5.ensures.nothing o _;
 }

@@ -1,0 +1,82 @@
+-- What may be forgotten: a router that stands for a history stands for each one that is alike.
+use Rattle.std.proofs.Common.{◌≡◌, ℕ, zero, suc, Bool, true, false, List, [], ◌∷◌, map, Some, is_some, All, refl, ap, sym, ◌∙◌, subst, arith}
+use Rattle.route_choice.specs.Capped.{capped}
+use Rattle.route_events.specs.declared.connection.Connection.{Connection}
+use Rattle.route_events.specs.Journal.{Journal}
+use Rattle.route_events.specs.Requests.{standing, is_out}
+use Rattle.route_events.specs.Connections.{open_connections}
+use Rattle.route_events.specs.Records.{ConnectionRecord}
+use Rattle.route_events.specs.Authority.{record_of}
+use Rattle.route_events.specs.Step.{IsRun}
+use Rattle.route_events.specs.Alike.{SameRecord, SameTries, SameOutstanding, Alike}
+use Rattle.route_events.proofs.Later.{alike_live, alike_failures}
+use Rattle.request_dispatch.specs.declared.outstanding.Outstanding.{Outstanding}
+use Rattle.request_dispatch.specs.declared.waiting.Waiting.{Waiting}
+use Rattle.request_dispatch.specs.RequestTable.{request_among, requests_of}
+use Rattle.router_core.specs.declared.router.Router.{Router}
+use Rattle.router_core.specs.Holds.{AreTried, IsOut, AreOut}
+use Rattle.router_core.specs.StandsFor.{StandsFor}
+
+same_record : (a b : ConnectionRecord) → SameRecord a b → a ≡ b
+same_record a b same = λ i. record {
+  made = same.made i;
+  bound = same.bound i;
+  gated = same.gated i;
+  holds = λ o. same.holds o i;
+  misdirected = λ o. same.misdirected o i;
+  outstanding = same.outstanding i;
+  sends = same.sends i;
+}
+
+first_of_all : {X : Type 0} (P : X → Type 0) (x : X) (xs : List X) → All P (x ∷ xs) → P x
+first_of_all P x xs h = h zero x (omega arith)
+
+rest_of_all : {X : Type 0} (P : X → Type 0) (x : X) (xs : List X) → All P (x ∷ xs) → All P xs
+rest_of_all P x xs h = λ n d within. h (suc n) d (omega (arith, within))
+
+same_records : (j k : Journal) (cs : List Connection) → All (λ c. SameRecord (record_of j c) (record_of k c)) cs → map (record_of j) cs ≡ map (record_of k) cs
+same_records j k [] h = refl
+same_records j k (c ∷ cs) h =
+    λ i. same_record (record_of j c) (record_of k c) (first_of_all (λ c. SameRecord (record_of j c) (record_of k c)) c cs h) i ∷ same_records j k cs (rest_of_all (λ c. SameRecord (record_of j c) (record_of k c)) c cs h) i
+
+same_tried : (j k : Journal) (ws : List Waiting) → All (SameTries j k) (requests_of ws) → AreTried j ws → AreTried k ws
+same_tried j k [] h was = tt
+same_tried j k (w ∷ ws) h was =
+    (λ r. was.0 r ∙ first_of_all (SameTries j k) w.request (requests_of ws) h r, same_tried j k ws (rest_of_all (SameTries j k) w.request (requests_of ws) h) was.1)
+
+same_test : (a b : Bool) → (a ≡ true → b ≡ true) → (b ≡ true → a ≡ true) → a ≡ b
+same_test true b there back = sym (there refl)
+same_test false true there back = back refl
+same_test false false there back = refl
+
+same_out : (j k : Journal) (outs : List Outstanding) → Alike j k → AreOut j outs → AreOut k outs
+same_out j k outs alike are = record {
+  out = λ n. are.out n ∙ same_test (is_out (standing j n)) (is_out (standing k n)) (λ out. (alike.outstanding n out).out) (alike.no_more n);
+  known = λ n x found. known_as n x found (alike.outstanding n (sym (are.out n) ∙ ap is_some found)) (are.known n x found);
+}
+  where
+    known_as : (n : ℕ) (x : Outstanding) → request_among outs n ≡ Some x → SameOutstanding j k n → IsOut j n x → IsOut k n x
+    known_as n x found same was = record {
+      request = sym same.request ∙ was.request;
+      sent = sym same.sent ∙ was.sent;
+      tried = λ r. was.tried r ∙ same.tried x.request was.request r;
+    }
+
+pub forgets : (router : Router) (j k : Journal) → StandsFor router j → Alike j k → IsRun k → StandsFor router k
+forgets router j k stands alike run = record {
+  run = run;
+  facts = stands.facts ∙ alike.steps;
+  last = stands.last ∙ alike.moment;
+  newest = stands.newest ∙ alike.newest;
+  tables = record {
+    opened = stands.tables.opened ∙ alike.opened;
+    pending = stands.tables.pending ∙ alike.pending;
+    connections = stands.tables.connections ∙ same_records j k (open_connections j) alike.records ∙ ap (map (record_of k)) alike.connections;
+  };
+  waiting = stands.waiting ∙ alike.waiting;
+  tried = same_tried j k router.tables.requests.waiting (subst (All (SameTries j k)) (sym stands.waiting) alike.tried) stands.tried;
+  outstanding = same_out j k router.tables.requests.outstanding alike stands.outstanding;
+  alternatives = λ o now h. stands.alternatives o now (omega (arith, h, alike.moment)) ∙ alike_live j k o now alike (omega (arith, h, alike.moment));
+  none_ended = stands.none_ended;
+  failures = λ o key. stands.failures o key ∙ ap capped (alike_failures j k o key alike);
+}
