@@ -1,5 +1,6 @@
 -- The reading of the fields of a response against their grammar.
-use Rattle.std.proofs.Common.{◌≡◌, ◌⊎◌, ℕ, ◌+◌, ◌<◌, ◌≤◌, Bool, true, false, cond, not, nat_lt, List, [], ◌∷◌, ◌++◌, length, length-append, Option, Some, None, Result, Ok, Err, append_assoc, refl, ap, sym, ◌∙◌, subst, arith, inl, inr}
+use Rattle.std.proofs.Common.{◌≡◌, ◌⊎◌, ℕ, ◌+◌, ◌≤◌, Bool, true, false, cond, not, nat_lt, List, [], ◌∷◌, ◌++◌, length, length-append, Option, Some, None, Result, Ok, Err, append_assoc, refl, ap, sym, ◌∙◌, subst, arith, inl, inr}
+use Rattle.alt_base.proofs.Numbers.{false_lt, lt_false, lt_true, true_eq, true_lt}
 use Rattle.alt_base.specs.declared.refusal.At.{At}
 use Rattle.field_text.specs.Runs.{AllIn, BeginsIn, after_run}
 use Rattle.field_text.proofs.RunLemmas.{run_of-append, after_run-append}
@@ -8,7 +9,6 @@ use Rattle.event_lines.specs.ResponseGrammar.{Field, is_tab, is_field_byte, Spel
 use Rattle.event_lines.specs.ResponseReading.{onto_first, field_texts, field_of, fields_from}
 use Rattle.event_lines.specs.declared.refusal.LineRefusal.{LineRefusal}
 use Rattle.event_lines.specs.declared.refusal.LineRefusal.TheVariants.{BadField}
-use Rattle.event_lines.proofs.Spaces.{same_from_test}
 use Rattle.event_lines.proofs.FieldSteps.{behind_texts, texts_split}
 use Rattle.event_lines.proofs.FieldSpellings.{field_sound, field_complete, field_apart}
 
@@ -45,7 +45,7 @@ texts_joined [] = refl
 texts_joined (b ∷ bs) = go (is_tab b) refl (field_texts bs) (texts_joined bs)
   where
     go : (t : Bool) → is_tab b ≡ t → (texts : List (List ℕ)) → 9 ∷ bs ≡ tabbed texts → 9 ∷ b ∷ bs ≡ tabbed (cond t ([] ∷ texts) (onto_first b texts))
-    go true is texts h = ap (λ c. 9 ∷ c ∷ bs) (same_from_test b 9 is) ∙ ap (λ x. 9 ∷ x) h
+    go true is texts h = ap (λ c. 9 ∷ c ∷ bs) (true_eq b 9 is) ∙ ap (λ x. 9 ∷ x) h
     go false is [] h = cc
     go false is (text ∷ texts) h = let rest : bs ≡ text ++ tabbed texts = cc in ap (λ x. 9 ∷ b ∷ x) rest
 
@@ -83,18 +83,6 @@ got_fields fields = Ok fields
 abbrev bad_fields : ℕ → Fields
 bad_fields place = refused place BadField
 
-lt_from_test : (a b : ℕ) → nat_lt a b ≡ true → a < b
-lt_from_test a b h = grind arith
-
-ge_from_test : (a b : ℕ) → nat_lt a b ≡ false → b ≤ a
-ge_from_test a b h = grind arith
-
-test_from_lt : (a b : ℕ) → a < b → nat_lt a b ≡ true
-test_from_lt a b h = grind arith
-
-test_from_ge : (a b : ℕ) → b ≤ a → nat_lt a b ≡ false
-test_from_ge a b h = grind arith
-
 abbrev one_then : ℕ → Option Field → Fields → Fields
 one_then place o rest = value_or BadField place o >>= λ (field : Field). rest >>= λ (fields : List Field). got_fields (field ∷ fields)
 
@@ -119,7 +107,7 @@ fields_sound count place (text ∷ texts) fields few h =
     go true is None read r later e = cc
     go true is (Some field) read (Err at) later e = cc
     go true is (Some field) read (Ok fs) later e =
-        let below = lt_from_test count most_fields is in
+        let below = true_lt count most_fields is in
         let rest = later (omega (arith, below)) fs refl in
         (subst (SpellFields (text ∷ texts)) (fields_same (field ∷ fs) fields e) (field_sound text field read, rest.0), omega (arith, rest.1))
 
@@ -129,7 +117,7 @@ fields_complete count place [] [] h few = refl
 fields_complete count place [] (field ∷ fields) h few = absurd h
 fields_complete count place (text ∷ texts) [] h few = absurd h
 fields_complete count place (text ∷ texts) (field ∷ fields) h few =
-    ap (λ t. one_then place (cond t (field_of text) None) (fields_from (count + 1) (place + length text + 1) texts)) (test_from_lt count most_fields (omega arith))
+    ap (λ t. one_then place (cond t (field_of text) None) (fields_from (count + 1) (place + length text + 1) texts)) (lt_true count most_fields (omega arith))
     ∙ ap (λ o. one_then place o (fields_from (count + 1) (place + length text + 1) texts)) (field_complete text field h.0)
     ∙ ap (λ (r : Fields). one_then place (Some field) r) (fields_complete (count + 1) (place + length text + 1) texts fields h.1 (omega arith))
 
@@ -182,11 +170,11 @@ fields_err count place (text ∷ texts) at few h =
 
     go : (t : Bool) → nat_lt count most_fields ≡ t → (o : Option Field) → field_of text ≡ o → (r : Fields) → (count + 1 ≤ most_fields → r ≡ Err at → BadAt (count + 1) (place + length text + 1) texts at)
         → one_then place (cond t o None) r ≡ Err at → BadAt count place (text ∷ texts) at
-    go false is o read r later e = let full = ge_from_test count most_fields is in first (inr (omega (arith, full))) (err_same (bad_here place) at e)
+    go false is o read r later e = let full = false_lt count most_fields is in first (inr (omega (arith, full))) (err_same (bad_here place) at e)
     go true is None read r later e = first (inl (missed text read)) (err_same (bad_here place) at e)
     go true is (Some field) read (Ok fs) later e = cc
     go true is (Some field) read (Err why) later e =
-        let below = lt_from_test count most_fields is in
+        let below = true_lt count most_fields is in
         let b = later (omega (arith, below)) e in
         record {
           good = text ∷ b.good;
@@ -225,11 +213,11 @@ bad_read count place [] [] bad more h few wrong = go (nat_lt count most_fields) 
         → one_then place (cond t (field_of bad) None) (fields_from (count + 1) (place + length bad + 1) more) ≡ bad_fields place
     go false is w = refl
     go true is (inl w) = ap (λ o. one_then place o (fields_from (count + 1) (place + length bad + 1) more)) (none_of bad w)
-    go true is (inr w) = absurd (clash (sym (test_from_ge count most_fields (omega (arith, w))) ∙ is))
+    go true is (inr w) = absurd (clash (sym (lt_false count most_fields (omega (arith, w))) ∙ is))
 bad_read count place [] (field ∷ fields) bad more h few wrong = absurd h
 bad_read count place (text ∷ good) [] bad more h few wrong = absurd h
 bad_read count place (text ∷ good) (field ∷ fields) bad more h few wrong =
-    ap (λ t. one_then place (cond t (field_of text) None) (fields_from (count + 1) (place + length text + 1) (good ++ bad ∷ more))) (test_from_lt count most_fields (omega arith))
+    ap (λ t. one_then place (cond t (field_of text) None) (fields_from (count + 1) (place + length text + 1) (good ++ bad ∷ more))) (lt_true count most_fields (omega arith))
     ∙ ap (λ o. one_then place o (fields_from (count + 1) (place + length text + 1) (good ++ bad ∷ more))) (field_complete text field h.0)
     ∙ ap (λ (r : Fields). one_then place (Some field) r) (bad_read (count + 1) (place + length text + 1) good fields bad more h.1 (omega arith) (moved wrong))
     ∙ ap bad_fields (further place)

@@ -1,9 +1,11 @@
 -- The name and the value of a field of a response.
-use Rattle.std.proofs.Common.{◌≡◌, ℕ, ◌-◌, ◌<◌, ◌≤◌, Bool, true, false, cond, ◌&&◌, nat_lt, nat_le, List, [], ◌∷◌, length, take, drop, Option, Some, None, Result, Ok, Err, IsTrue, refl, ap, sym, ◌∙◌, arith}
+use Rattle.std.proofs.Common.{◌≡◌, ℕ, ◌-◌, ◌<◌, ◌≤◌, Bool, true, false, cond, ◌&&◌, List, [], ◌∷◌, length, take, drop, Option, Some, None, Result, Ok, Err, IsTrue, refl, ap, sym, ◌∙◌, arith}
 use Rattle.std.specs.List.{list_all}
 use Rattle.std.specs.Result.{IfOk}
 use Rattle.std.proofs.lemmas.Bool.Decides.{Decides-by_and}
-use Rattle.std.proofs.lemmas.List.{take_all}
+use Rattle.std.proofs.lemmas.List.{take_all, nil_from_length}
+use Rattle.std.proofs.lemmas.Bool.{and_from}
+use Rattle.alt_base.proofs.Numbers.{le_true, lt_true}
 use Rattle.alt_base.specs.declared.refusal.NoMemory.{NoMemory}
 use Rattle.field_text.specs.Runs.{run_of, after_run}
 use Rattle.http_header.specs.Token.{token_test, is_token_byte, AllPass, lowercase}
@@ -12,15 +14,6 @@ use Rattle.http_header.proofs.TokenLemmas.{IsFieldName-from_test}
 use Rattle.event_lines.specs.ResponseGrammar.{Field, is_value_byte}
 use Rattle.event_lines.specs.ResponseReading.{is_name, is_before_colon, trimmed, field_from, field_behind, field_of}
 use Rattle.event_lines.proofs.FieldParts.{taken_by, dropped_by}
-
-and_from : (a b : Bool) → a ≡ true → b ≡ true → (a && b) ≡ true
-and_from a b h k = rw (h, k) refl
-
-test_from_lt : (a b : ℕ) → a < b → nat_lt a b ≡ true
-test_from_lt a b h = grind arith
-
-test_from_le : (a b : ℕ) → a ≤ b → nat_le a b ≡ true
-test_from_le a b h = grind arith
 
 -- what the test of a name says
 pub name_sound : (text : List ℕ) → is_name text ≡ true → IsFieldName text
@@ -34,7 +27,7 @@ all_test text h = (Decides-by_and token_test (λ b. IsTrue (token_test b)) (list
 pub name_complete : (text : List ℕ) → IsFieldName text → is_name text ≡ true
 unfolding is_name
 name_complete text h =
-    and_from _ _ (and_from _ _ (test_from_lt 0 (length text) h.0.0) (all_test text h.0.1)) (test_from_le (length text) 65535 h.1)
+    and_from _ _ (and_from _ _ (lt_true 0 (length text) h.0.0) (all_test text h.0.1)) (le_true (length text) 65535 h.1)
 
 clash : false ≡ true → ⊥
 clash e = cc
@@ -67,14 +60,10 @@ field_made name lower value named valued is =
 pub field_unnamed : (name value : List ℕ) → is_name name ≡ false → None ≡ field_from name value
 field_unnamed name value other = ap (λ t. chosen (t && list_all is_value_byte value) name value) (sym other)
 
-empty_list : (xs : List ℕ) → length xs < 1 → xs ≡ []
-empty_list [] h = refl
-empty_list (x ∷ xs) h = absurd (omega arith)
-
 -- a text without a colon is no field
 pub no_colon : (text : List ℕ) (n : ℕ) → n ≡ length (run_of is_before_colon text) → n ≤ length text → length (take (length text - n) (drop n text)) < 1 → None ≡ field_of text
 no_colon text n is within short =
-    let none : after_run is_before_colon text ≡ [] = sym (dropped_by is_before_colon text n is within) ∙ empty_list (take (length text - n) (drop n text)) short in
+    let none : after_run is_before_colon text ≡ [] = sym (dropped_by is_before_colon text n is within) ∙ nil_from_length (take (length text - n) (drop n text)) (omega (arith, short)) in
     ap (field_behind (run_of is_before_colon text)) (sym none)
 
 behind_first : (name rest : List ℕ) → 1 ≤ length rest → field_from name (trimmed (take (length rest - 1) (drop 1 rest))) ≡ field_behind name rest

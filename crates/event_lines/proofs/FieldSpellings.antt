@@ -1,22 +1,20 @@
 -- The reading of a field of a response against its grammar.
 use Rattle.std.proofs.Common.{◌≡◌, ℕ, Bool, true, false, cond, not, ◌&&◌, nat_eq, List, [], ◌∷◌, ◌++◌, Option, Some, None, append-nil, refl, ap, sym, ◌∙◌, subst}
 use Rattle.std.specs.List.{list_all}
+use Rattle.std.proofs.lemmas.Bool.{and_from}
+use Rattle.alt_base.proofs.Numbers.{eq_false, true_eq}
 use Rattle.alt_base.proofs.Conjunctions.{both}
 use Rattle.field_text.specs.Runs.{AllIn, BeginsIn, IsLongestRun, run_of, after_run}
-use Rattle.field_text.proofs.RunLemmas.{longest_run, run_of-append, after_run-append}
+use Rattle.field_text.proofs.RunLemmas.{longest_run, run_of-append, after_run-append, AllIn-append}
 use Rattle.http_header.specs.Token.{token_test, lowercase}
 use Rattle.http_header.specs.FieldName.{IsFieldName}
 use Rattle.event_lines.specs.Parts.{is_space}
 use Rattle.event_lines.specs.ResponseGrammar.{Field, is_value_byte, is_field_byte, EndsInSpace, IsValue, SpellsField}
 use Rattle.event_lines.specs.ResponseReading.{onto_trimmed, without_last_spaces, trimmed, is_name, is_before_colon, field_from, field_behind, field_of}
-use Rattle.event_lines.proofs.Spaces.{same_from_test, test_from_other}
 use Rattle.event_lines.proofs.FieldNames.{name_sound, name_complete, all_test}
 
 clash : false ≡ true → ⊥
 clash e = cc
-
-and_from : (a b : Bool) → a ≡ true → b ≡ true → (a && b) ≡ true
-and_from a b h k = rw (h, k) refl
 
 -- runs of a class
 pub all_in : (class : ℕ → Bool) (xs : List ℕ) → list_all class xs ≡ true → AllIn class xs
@@ -27,16 +25,12 @@ pub all_from : (class : ℕ → Bool) (xs : List ℕ) → AllIn class xs → lis
 all_from class [] h = refl
 all_from class (b ∷ bs) h = and_from (class b) (list_all class bs) h.0 (all_from class bs h.1)
 
-pub in_append : (class : ℕ → Bool) (xs ys : List ℕ) → AllIn class xs → AllIn class ys → AllIn class (xs ++ ys)
-in_append class [] ys h k = k
-in_append class (b ∷ bs) ys h k = (h.0, in_append class bs ys h.1 k)
-
 pub one_other : (test : ℕ → Bool) (other b : ℕ) → test other ≡ false → test b ≡ true → not (nat_eq b other) ≡ true
 one_other test other b missing is = go (nat_eq b other) refl
   where
     go : (t : Bool) → nat_eq b other ≡ t → not t ≡ true
     go false e = refl
-    go true e = absurd (clash (sym missing ∙ ap test (sym (same_from_test b other e)) ∙ is))
+    go true e = absurd (clash (sym missing ∙ ap test (sym (true_eq b other e)) ∙ is))
 
 -- bytes of a class that misses a byte are other ones
 pub all_other : (test : ℕ → Bool) (other : ℕ) (xs : List ℕ) → test other ≡ false → AllIn test xs → AllIn (λ b. not (nat_eq b other)) xs
@@ -94,13 +88,13 @@ spaces_trimmed (b ∷ bs) h = ap (onto_trimmed b) (spaces_trimmed bs h.1) ∙ ap
 
 value_trimmed : (value after : List ℕ) → AllIn is_space after → ¬ (EndsInSpace value) → without_last_spaces (value ++ after) ≡ value
 value_trimmed [] after spaces end = spaces_trimmed after spaces
-value_trimmed (b ∷ []) after spaces end = ap (onto_trimmed b) (spaces_trimmed after spaces) ∙ ap (λ t. cond t [] (b ∷ [])) (test_from_other b 32 end)
+value_trimmed (b ∷ []) after spaces end = ap (onto_trimmed b) (spaces_trimmed after spaces) ∙ ap (λ t. cond t [] (b ∷ [])) (eq_false b 32 end)
 value_trimmed (b ∷ c ∷ cs) after spaces end = ap (onto_trimmed b) (value_trimmed (c ∷ cs) after spaces end)
 
 value_between : (before value after : List ℕ) → AllIn is_space before → AllIn is_space after → IsValue value → trimmed (before ++ (value ++ after)) ≡ value
 value_between before [] after h k v =
     ap (λ x. without_last_spaces (after_run is_space x)) (sym (append-nil (before ++ after)))
-    ∙ ap without_last_spaces (after_run-append is_space (before ++ after) [] (in_append is_space before after h k) (λ e. e))
+    ∙ ap without_last_spaces (after_run-append is_space (before ++ after) [] (AllIn-append is_space before after h k) (λ e. e))
 value_between before (b ∷ bs) after h k v =
     ap without_last_spaces (after_run-append is_space before ((b ∷ bs) ++ after) h v.begin) ∙ value_trimmed (b ∷ bs) after k v.end
 
@@ -127,7 +121,7 @@ colon_of : (b : ℕ) → ¬ (is_before_colon b ≡ true) → b ≡ 58
 colon_of b h = go (nat_eq b 58) refl
   where
     go : (t : Bool) → nat_eq b 58 ≡ t → b ≡ 58
-    go true is = same_from_test b 58 is
+    go true is = true_eq b 58 is
     go false is = absurd (h (ap not is))
 
 pub field_sound : (text : List ℕ) (made : Field) → field_of text ≡ Some made → SpellsField text made
@@ -181,8 +175,8 @@ field_complete text made s =
 pub field_apart : (text : List ℕ) (made : Field) → SpellsField text made → AllIn is_field_byte text
 field_apart text made s =
     subst (AllIn is_field_byte) (sym s.spelled)
-    (in_append is_field_byte s.name (58 ∷ (s.before ++ (made.value ++ s.after))) (all_other token_test 9 s.name refl (name_bytes s.name s.of_name)) (
+    (AllIn-append is_field_byte s.name (58 ∷ (s.before ++ (made.value ++ s.after))) (all_other token_test 9 s.name refl (name_bytes s.name s.of_name)) (
       refl,
-      in_append is_field_byte s.before (made.value ++ s.after) (all_other is_space 9 s.before refl s.of_before)
-          (in_append is_field_byte made.value s.after (all_other is_value_byte 9 made.value refl s.of_value.bytes) (all_other is_space 9 s.after refl s.of_after)),
+      AllIn-append is_field_byte s.before (made.value ++ s.after) (all_other is_space 9 s.before refl s.of_before)
+          (AllIn-append is_field_byte made.value s.after (all_other is_value_byte 9 made.value refl s.of_value.bytes) (all_other is_space 9 s.after refl s.of_after)),
     ))

@@ -1,14 +1,15 @@
 -- Reading the fields of a response one by one, with what they say so far.
 use Rattle.std.proofs.Common.{◌≡◌, ℕ, ◌+◌, ◌-◌, ◌<◌, ◌≤◌, Bool, true, false, cond, not, nat_lt, List, [], ◌∷◌, ◌++◌, length, take, drop, length-drop, ◌^◌, codes, Option, Some, None, Result, unwrap_or, Ok, Err, append_assoc, append-nil, refl, ap, sym, ◌∙◌, arith}
-use Rattle.std.proofs.lemmas.List.{take_all}
+use Rattle.std.proofs.lemmas.List.{take_all, nil_from_length}
+use Rattle.alt_base.proofs.Numbers.{lt_true}
 use Rattle.alt_base.specs.declared.refusal.At.{At}
 use Rattle.alt_base.specs.declared.refusal.Refused.{Refused}
 use Rattle.alt_base.specs.declared.refusal.Refused.TheVariants as refusal
 use Rattle.field_text.specs.Runs.{run_of, after_run}
 use Rattle.event_lines.specs.Reads.{MayGive}
 use Rattle.event_lines.specs.Parts.{◌>>=◌, value_or, refused}
-use Rattle.event_lines.specs.ResponseGrammar.{Field, is_tab, is_field_byte, most_fields, is_named, values_of, seconds_of, first_seconds, further_values, joined_values}
-use Rattle.event_lines.specs.ResponseReading.{onto_first, field_texts, field_of, fields_from, fields_reading, reply_of, age_with, joined, altsvc_with, with_field}
+use Rattle.event_lines.specs.ResponseGrammar.{Field, is_tab, is_field_byte, most_fields, is_named, values_of, further_values, joined_values}
+use Rattle.event_lines.specs.ResponseReading.{onto_first, field_texts, field_of, fields_from, fields_reading, seconds_of, first_seconds, reply_of, age_with, joined, altsvc_with, with_field}
 use Rattle.event_lines.specs.declared.response.Reply.{Reply}
 use Rattle.event_lines.specs.declared.refusal.LineRefusal.{LineRefusal}
 use Rattle.event_lines.specs.declared.refusal.LineRefusal.TheVariants.{BadField}
@@ -106,9 +107,6 @@ one_more so_far count place text texts = go (cond (nat_lt count most_fields) (fi
     go (Some field) (Ok fields) = refl
     go (Some field) (Err at) = refl
 
-test_from_lt : (a b : ℕ) → a < b → nat_lt a b ≡ true
-test_from_lt a b h = grind arith
-
 abbrev at_most : Reply → ℕ → ℕ → ℕ → List (List ℕ) → Option Field → Replied
 at_most so_far count place length texts o = value_or BadField place o >>= λ (field : Field). read_on (with_field so_far field) (count + 1) (place + length + 1) texts
 
@@ -118,7 +116,7 @@ pub one_step : (so_far : Reply) (count place n : ℕ) (rest : List ℕ) (o : Opt
 one_step so_far count place n rest o few is within read =
     ap (read_on so_far count place) (texts_split rest)
     ∙ one_more so_far count place (run_of is_field_byte rest) (behind_texts (after_run is_field_byte rest))
-    ∙ ap (λ t. at_most so_far count place (length (run_of is_field_byte rest)) (behind_texts (after_run is_field_byte rest)) (cond t (field_of (run_of is_field_byte rest)) None)) (test_from_lt count most_fields few)
+    ∙ ap (λ t. at_most so_far count place (length (run_of is_field_byte rest)) (behind_texts (after_run is_field_byte rest)) (cond t (field_of (run_of is_field_byte rest)) None)) (lt_true count most_fields few)
     ∙ ap (λ t. at_most so_far count place (length (run_of is_field_byte rest)) (behind_texts (after_run is_field_byte rest)) (field_of t)) (sym (taken_by is_field_byte rest n is))
     ∙ ap (at_most so_far count place (length (run_of is_field_byte rest)) (behind_texts (after_run is_field_byte rest))) (sym read)
     ∙ ap (λ m. at_most so_far count place m (behind_texts (after_run is_field_byte rest)) o) (sym is)
@@ -129,16 +127,12 @@ pub too_many : (so_far : Reply) (count place : ℕ) (rest : List ℕ) → count 
 too_many so_far count place rest is =
     ap (λ n. read_on so_far n place (field_texts rest)) is ∙ ap (read_on so_far most_fields place) (texts_split rest)
 
-empty_list : (xs : List ℕ) → length xs < 1 → xs ≡ []
-empty_list [] h = refl
-empty_list (x ∷ xs) h = absurd (omega arith)
-
 -- a last text, which is a field
 pub last_step : (so_far added : Reply) (count place n : ℕ) (rest : List ℕ) (field : Field) → count < most_fields → n ≡ length (run_of is_field_byte rest) → n ≤ length rest
     → Some field ≡ field_of (take n rest) → length (take (length rest - n) (drop n rest)) < 1 → added ≡ with_field so_far field → read_on so_far count place (field_texts rest) ≡ replies added
 last_step so_far added count place n rest field few is within read short adds =
     one_step so_far count place n rest (Some field) few is within read
-    ∙ ap (λ t. read_on (with_field so_far field) (count + 1) (place + n + 1) (behind_texts t)) (empty_list (take (length rest - n) (drop n rest)) short)
+    ∙ ap (λ t. read_on (with_field so_far field) (count + 1) (place + n + 1) (behind_texts t)) (nil_from_length (take (length rest - n) (drop n rest)) (omega (arith, short)))
     ∙ ap replies (sym adds)
 
 behind_first : (rest : List ℕ) → 1 ≤ length rest → behind_texts rest ≡ field_texts (take (length rest - 1) (drop 1 rest))

@@ -1,11 +1,12 @@
 -- No space stands in the texts of numbers, addresses, names and origins.
-use Rattle.std.proofs.Common.{◌≡◌, ℕ, ◌+◌, ◌<◌, ◌≤◌, ◌^◌, Bool, true, false, cond, not, ◌&&◌, nat_eq, nat_lt, List, [], ◌∷◌, ◌++◌, decimal, codes, append_assoc, refl, ap, sym, ◌∙◌, subst, arith, inl, inr}
+use Rattle.std.proofs.Common.{◌≡◌, ℕ, ◌+◌, ◌<◌, ◌≤◌, ◌^◌, Bool, true, false, cond, not, ◌&&◌, nat_eq, nat_lt, List, [], ◌∷◌, ◌++◌, decimal, codes, refl, ap, sym, ◌∙◌, subst, arith, inl, inr}
 use Rattle.std.specs.Char.{is_ascii_digit, digit_value}
 use Rattle.std.specs.Str.Parse.{AllDigits}
-use Rattle.std.specs.Net.Text.{dotted_text}
 use Rattle.std.specs.Net.Grammar.{IsDotted, IsColonHex, IsGroupsAfter}
 use Rattle.std.proofs.lemmas.Fmt.{decimal_is_IsNumeral}
 use Rattle.std.proofs.lemmas.List.Folds.{list_all-append}
+use Rattle.std.proofs.lemmas.Bool.{and_from}
+use Rattle.alt_base.proofs.Numbers.{lt_true, true_eq}
 use Rattle.alt_base.specs.Classes.{in_ranges, host_name_class}
 use Rattle.origin_values.specs.DefaultPort.{default_port_of}
 use Rattle.origin_values.specs.HostGrammar.{SpellsName, SpellsAddr, SpellsHost}
@@ -26,10 +27,8 @@ use Rattle.coalescing.specs.NamesWritten.{name_text, further_text, names_text, I
 use Rattle.coalescing.specs.declared.cert_name.CertName.{CertName}
 use Rattle.coalescing.specs.declared.cert_name.CertName.TheVariants.{Exact, Wild, Ip}
 use Rattle.alt_base.proofs.Conjunctions.{both}
-use Rattle.event_lines.proofs.Spaces.{is_inner, IsInner, same_from_test}
-
-and_from : (a b : Bool) → a ≡ true → b ≡ true → (a && b) ≡ true
-and_from a b h k = rw (h, k) refl
+use Rattle.event_lines.proofs.Spaces.{is_inner, IsInner}
+use Rattle.alt_base.proofs.Digits.{dotted_assoc}
 
 -- what a test that refuses spaces passes is none
 inner_from : (test : ℕ → Bool) → test 32 ≡ false → (b : ℕ) → test b ≡ true → is_inner b ≡ true
@@ -40,7 +39,7 @@ inner_from test no_space b h = go (nat_eq b 32) refl
 
     go : (t : Bool) → nat_eq b 32 ≡ t → not t ≡ true
     go false is = refl
-    go true is = absurd (clash (sym no_space ∙ ap test (sym (same_from_test b 32 is)) ∙ h))
+    go true is = absurd (clash (sym no_space ∙ ap test (sym (true_eq b 32 is)) ∙ h))
 
 inner_append : (xs ys : List ℕ) → IsInner xs → IsInner ys → IsInner (xs ++ ys)
 inner_append xs ys h k = list_all-append is_inner xs ys ∙ and_from _ _ h k
@@ -63,20 +62,14 @@ labels_inner (b ∷ bs) count digits h = go (λ n d. labels_inner bs n d) (nat_e
 name_inner : (text name : List ℕ) → SpellsName text name → IsInner text
 name_inner text name h = labels_inner text 0 true (name_labels text name h)
 
-test_from_lt : (a b : ℕ) → a < b → nat_lt a b ≡ true
-test_from_lt a b h = grind arith
-
 digits_inner : (radix : ℕ) (ds : List ℕ) → radix ≤ 16 → AllDigits radix ds → IsInner ds
 digits_inner radix [] small h = refl
 digits_inner radix (c ∷ ds) small h =
     let digit : digit_value c < 16 = omega (arith, h.0) in
-    and_from _ _ (inner_from (λ b. nat_lt (digit_value b) 16) refl c (test_from_lt (digit_value c) 16 digit)) (digits_inner radix ds small h.1)
+    and_from _ _ (inner_from (λ b. nat_lt (digit_value b) 16) refl c (lt_true (digit_value c) 16 digit)) (digits_inner radix ds small h.1)
 
 pub number_inner : (n : ℕ) → n < 2 ^ 64 → IsInner (decimal n)
 number_inner n small = digits_inner 10 (decimal n) (omega arith) (decimal_is_IsNumeral n small).0.1
-
-dotted_assoc : (a b c d : ℕ) → dotted_text a b c d ≡ decimal a ++ 46 ∷ (decimal b ++ 46 ∷ (decimal c ++ 46 ∷ decimal d))
-dotted_assoc a b c d = simp append_assoc
 
 dot_then : (n : ℕ) (rest : List ℕ) → n < 256 → IsInner rest → IsInner (decimal n ++ 46 ∷ rest)
 dot_then n rest small h = inner_append (decimal n) (46 ∷ rest) (number_inner n (omega arith)) h

@@ -8,11 +8,12 @@ use Rattle.origin_values.specs.declared.proto.Proto.{Proto}
 use Rattle.origin_values.proofs.Addresses.{read_addr_sound}
 use Rattle.coalescing.specs.declared.cert_name.CertName.{CertName}
 use Rattle.route_events.specs.declared.fact.Fact.TheVariants.{Request, Opened, Failed, Closed, Response, Network, Tick}
-use Rattle.event_lines.specs.Fields.{most_short, most_long, number_of, port_of, proto_of, origin_of, names_of}
+use Rattle.event_lines.specs.Fields.{number_of, port_of, proto_of, origin_of, names_of}
+use Rattle.event_lines.specs.Limits.{most_short, most_long}
 use Rattle.event_lines.specs.Parts.{Part, Reading, ◌>>=◌, next_word, value_or, field, refused}
 use Rattle.event_lines.specs.LineReading.{request_fields, opened_fields, failed_fields, closed_fields, response_fields, kind_reading}
-use Rattle.event_lines.specs.ResponseGrammar.{Field, SpellFields, tabbed, most_fields, age_of, altsvc_of}
-use Rattle.event_lines.specs.ResponseReading.{status_reading, reply_reading}
+use Rattle.event_lines.specs.ResponseGrammar.{Field, SpellFields, tabbed, most_fields, altsvc_of}
+use Rattle.event_lines.specs.ResponseReading.{status_reading, reply_reading, age_of}
 use Rattle.event_lines.specs.declared.response.Reply.{Reply}
 use Rattle.event_lines.specs.LineGrammar.{NoSpace, AreApart, spaced, SpellsStatus, SpellsRequest, SpellsOpened, SpellsNumbered, SpellsResponse, SpellsKind}
 use Rattle.event_lines.specs.LineRefusals.{EndsWord, IsNext, IsStatusWord}
@@ -20,6 +21,7 @@ use Rattle.event_lines.specs.declared.event.Event.{Event}
 use Rattle.event_lines.specs.declared.event.Event.TheVariants.{Client}
 use Rattle.event_lines.specs.declared.refusal.LineRefusal.{LineRefusal}
 use Rattle.event_lines.specs.declared.refusal.LineRefusal.TheVariants.{BadField, UnknownKind}
+use Rattle.event_lines.proofs.AgeTexts.{age_told}
 use Rattle.event_lines.proofs.NumberTexts.{number_sound, port_sound}
 use Rattle.event_lines.proofs.FieldTexts.{proto_sound, origin_field_sound, names_field_sound}
 use Rattle.event_lines.proofs.Refusals.{got_parts}
@@ -241,7 +243,7 @@ response_sound text whole place event left is ends h none =
       of_status = s.is_status;
       of_fields = r.spelled;
       within = r.few;
-      of_age = refl;
+      of_age = age_told r.fields;
       of_altsvc = refl;
     } in
     subst (SpellsKind whole) r.same spells

@@ -7,7 +7,8 @@ use Rattle.origin_values.specs.declared.origin.Origin.{Origin}
 use Rattle.origin_values.specs.declared.proto.Proto.{Proto}
 use Rattle.coalescing.specs.declared.cert_name.CertName.{CertName}
 use Rattle.route_events.specs.declared.fact.Fact.TheVariants.{Request, Opened, Failed, Closed, Response, Network, Tick}
-use Rattle.event_lines.specs.Fields.{most_short, most_long, number_of, port_of, proto_of, origin_of, names_of}
+use Rattle.event_lines.specs.Fields.{number_of, port_of, proto_of, origin_of, names_of}
+use Rattle.event_lines.specs.Limits.{most_short, most_long}
 use Rattle.event_lines.specs.Parts.{Part, Reading, ◌>>=◌, field, refused}
 use Rattle.event_lines.specs.LineReading.{request_fields, opened_fields, response_fields, kind_reading, end_reading}
 use Rattle.event_lines.specs.ResponseReading.{status_reading, reply_reading}

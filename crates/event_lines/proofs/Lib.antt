@@ -6,6 +6,7 @@ pub mod FieldNames
 pub mod FieldSteps
 pub mod Appended
 pub mod NumberTexts
+pub mod AgeTexts
 pub mod FieldTexts
 pub mod Spaces
 pub mod FieldSpellings
@@ -20,4 +21,5 @@ pub mod Lines
 pub mod RefusedLines
 pub mod InnerBytes
 pub mod WrittenResponses
+pub mod ValidLines
 pub mod WrittenLines

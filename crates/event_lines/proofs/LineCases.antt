@@ -2,8 +2,10 @@
 use Rattle.std.proofs.Common.{◌≡◌, ℕ, ◌+◌, Bool, true, false, cond, List, [], ◌∷◌, ◌++◌, length, Option, Some, None, Result, Ok, append-nil, refl, ap, sym, ◌∙◌, subst, arith}
 use Rattle.std.specs.Str.Parse.{AllDigits, IsNumeral}
 use Rattle.std.proofs.lemmas.Str.Parse.{digit_from_value}
+use Rattle.alt_base.proofs.Numbers.{eq_false, eq_true, true_eq}
 use Rattle.alt_base.specs.declared.refusal.At.{At}
-use Rattle.event_lines.specs.Fields.{most_short, number_of}
+use Rattle.event_lines.specs.Fields.{number_of}
+use Rattle.event_lines.specs.Limits.{most_short}
 use Rattle.event_lines.specs.Parts.{Part, Reading, ◌>>=◌, before_space, from_space, next_word, value_or, refused}
 use Rattle.event_lines.specs.LineReading.{kind_reading, end_reading, event_reading, line_reading, is_skipped}
 use Rattle.event_lines.specs.LineGrammar.{SpellsNumber, NoSpace, IsSkipped}
@@ -13,7 +15,7 @@ use Rattle.event_lines.specs.declared.event.Event.TheVariants.{Skip}
 use Rattle.event_lines.specs.declared.refusal.LineRefusal.{LineRefusal}
 use Rattle.event_lines.specs.declared.refusal.LineRefusal.TheVariants.{BadMoment, UnknownKind}
 use Rattle.event_lines.proofs.NumberTexts.{number_sound, number_complete}
-use Rattle.event_lines.proofs.Spaces.{before_front, from_front, word_ends, front_of, next_reads, Next, Nothing, More, next_of, same_from_test, test_from_same, test_from_other}
+use Rattle.event_lines.proofs.Spaces.{before_front, from_front, word_ends, front_of, next_reads, Next, Nothing, More, next_of}
 use Rattle.event_lines.proofs.Steps.{not_skipped}
 
 abbrev pub Said : Type 0
@@ -35,15 +37,15 @@ behind_moment now rest = next_word UnknownKind rest >>= λ (kind : Part × Part)
 
 skip_from : (line : List ℕ) → IsSkipped line → is_skipped line ≡ true
 skip_from [] h = refl
-skip_from (b ∷ bs) h = test_from_same b 35 h
+skip_from (b ∷ bs) h = eq_true b 35 h
 
 skip_to : (line : List ℕ) → is_skipped line ≡ true → IsSkipped line
 skip_to [] h = tt
-skip_to (b ∷ bs) h = same_from_test b 35 h
+skip_to (b ∷ bs) h = true_eq b 35 h
 
 pub skip_other : (line : List ℕ) → ¬ (IsSkipped line) → is_skipped line ≡ false
 skip_other [] h = absurd (h tt)
-skip_other (b ∷ bs) h = test_from_other b 35 h
+skip_other (b ∷ bs) h = eq_false b 35 h
 
 pub skip_reads : (line : List ℕ) → IsSkipped line → line_reading line ≡ Ok (0, Skip)
 skip_reads line h = ap (λ (t : Bool). let said : Said = cond t (Ok (0, Skip)) (event_reading line) in said) (skip_from line h)

@@ -2,7 +2,7 @@
 use Rattle.std.proofs.Common.{◌≡◌, ℕ, ◌+◌, List, [], ◌∷◌, length, codes, Ok, Err, append-nil, refl, ap, sym, ◌∙◌, subst, inl, inr}
 use Rattle.alt_base.specs.declared.refusal.At.{At}
 use Rattle.route_events.specs.declared.fact.Fact.TheVariants.{Request, Opened, Failed, Closed, Response, Network, Tick}
-use Rattle.event_lines.specs.Fields.{most_short, most_long}
+use Rattle.event_lines.specs.Limits.{most_short, most_long}
 use Rattle.event_lines.specs.Parts.{Part, Reading, ◌>>=◌, refused}
 use Rattle.event_lines.specs.LineReading.{kind_reading, end_reading, line_reading}
 use Rattle.event_lines.specs.LineGrammar.{SpellsNumber, spaced, SpellsKind, SpellsLine}
@@ -11,6 +11,7 @@ use Rattle.event_lines.specs.declared.event.Event.{Event}
 use Rattle.event_lines.specs.declared.event.Event.TheVariants.{Client, Skip}
 use Rattle.event_lines.specs.declared.refusal.LineRefusal.{LineRefusal}
 use Rattle.event_lines.specs.declared.refusal.LineRefusal.TheVariants.{BadMoment, UnknownKind}
+use Rattle.event_lines.proofs.AgeTexts.{age_read}
 use Rattle.event_lines.proofs.NumberTexts.{number_complete, port_complete}
 use Rattle.event_lines.proofs.FieldTexts.{proto_complete, origin_field_complete, names_field_complete}
 use Rattle.event_lines.proofs.Spaces.{IsInner, no_space_from, next_spaced}
@@ -130,7 +131,7 @@ kind_complete now place text (Client (Response request status age altsvc)) s =
     let read = response_complete s.request_text s.status_text s.field_texts s.fields request status (place + 1 + 8) s.apart (number_complete most_short s.request_text request s.of_request) s.of_status s.of_fields s.within in
     with_kind now place text (codes "response") rest next
     ∙ ap (whole now) read.1
-    ∙ ap (λ a. said now (Client (Response request status a (altsvc_of s.fields)))) (sym s.of_age)
+    ∙ ap (λ a. said now (Client (Response request status a (altsvc_of s.fields)))) (sym (age_read s.fields age s.of_age))
     ∙ ap (λ v. said now (Client (Response request status age v))) (sym s.of_altsvc)
 kind_complete now place text (Client Network) s = named now place text (codes "network") [] s refl
 kind_complete now place text (Client Tick) s = named now place text (codes "tick") [] s refl

@@ -3,38 +3,18 @@ use Rattle.std.proofs.Common.{◌≡◌, ◌≢◌, ℕ, ◌<◌, ◌≤◌, Boo
 use Rattle.std.specs.List.{list_all}
 use Rattle.std.specs.Option.{option_and_then}
 use Rattle.std.specs.Char.{is_ascii_digit, digit_value}
-use Rattle.std.specs.Str.Parse.{AllDigits, IsNumeral, digits_value}
-use Rattle.origin_values.proofs.Names.{digits_pass}
-use Rattle.event_lines.specs.Fields.{is_number, number_within, number_of, unless_zero, port_of, most_port, most_status, final_status, status_of}
+use Rattle.std.specs.Str.Parse.{IsNumeral, digits_value}
+use Rattle.std.proofs.lemmas.Bool.{and_from, not-true}
+use Rattle.alt_base.proofs.Numbers.{eq_false, eq_true, false_eq, le_true, lt_true, true_le, true_lt, true_eq}
+use Rattle.alt_base.proofs.Digits.{digits_all}
+use Rattle.event_lines.specs.Fields.{is_number, number_within, number_of, unless_zero, port_of, final_status, status_of}
+use Rattle.event_lines.specs.Limits.{most_port, most_status}
 use Rattle.event_lines.specs.LineGrammar.{NoLeadingZero, SpellsNumber, SpellsPort, SpellsStatus}
-use Rattle.event_lines.proofs.Numbers.{le_from_test, test_from_le, digit_code, value_of_digit}
 use Rattle.alt_base.proofs.Conjunctions.{both}
-
-and_from : (a b : Bool) → a ≡ true → b ≡ true → (a && b) ≡ true
-and_from a b h k = rw (h, k) refl
-
-not_true : (a : Bool) → not a ≡ true → a ≡ false
-not_true true h = cc
-not_true false h = refl
-
-other_from_test : (a b : ℕ) → nat_eq a b ≡ false → a ≢ b
-other_from_test a b h = grind arith
-
-test_from_other : (a b : ℕ) → a ≢ b → nat_eq a b ≡ false
-test_from_other a b h = grind arith
-
-lt_from_test : (a b : ℕ) → nat_lt a b ≡ true → a < b
-lt_from_test a b h = grind arith
-
-test_from_lt : (a b : ℕ) → a < b → nat_lt a b ≡ true
-test_from_lt a b h = grind arith
+use Rattle.alt_base.proofs.Digits.{all_digits, digit_code, value_of_digit}
 
 digit_below : (b : ℕ) → is_ascii_digit b ≡ true → digit_value b < 10
 digit_below b h = let code = digit_code b h in omega (arith, value_of_digit b h, code.0, code.1)
-
-all_digits : (ds : List ℕ) → list_all is_ascii_digit ds ≡ true → AllDigits 10 ds
-all_digits [] h = tt
-all_digits (d ∷ ds) h = let t = both (is_ascii_digit d) (list_all is_ascii_digit ds) h in (digit_below d t.0, all_digits ds t.1)
 
 record HasForm (text : List ℕ) : Type 0 where
   numeral : IsNumeral 10 text
@@ -45,18 +25,18 @@ form_from_test [] h = cc
 form_from_test (b ∷ []) h = record { numeral = (omega arith, (digit_below b h, tt)); no_zero = tt }
 form_from_test (b ∷ c ∷ bs) h =
     let t = both (not (nat_eq b 48)) (list_all is_ascii_digit (b ∷ c ∷ bs)) h in
-    record { numeral = (omega arith, all_digits (b ∷ c ∷ bs) t.1); no_zero = other_from_test b 48 (not_true (nat_eq b 48) t.0) }
+    record { numeral = (omega arith, all_digits (b ∷ c ∷ bs) t.1); no_zero = false_eq b 48 (not-true (nat_eq b 48) t.0) }
 
 test_from_form : (text : List ℕ) → IsNumeral 10 text → NoLeadingZero text → is_number text ≡ true
 test_from_form [] h k = absurd (omega (arith, h.0))
-test_from_form (b ∷ []) h k = (both (is_ascii_digit b) true (digits_pass (b ∷ []) h.1)).0
-test_from_form (b ∷ c ∷ bs) h k = and_from _ _ (ap not (test_from_other b 48 k)) (digits_pass (b ∷ c ∷ bs) h.1)
+test_from_form (b ∷ []) h k = (both (is_ascii_digit b) true (digits_all (b ∷ []) h.1)).0
+test_from_form (b ∷ c ∷ bs) h k = and_from _ _ (ap not (eq_false b 48 k)) (digits_all (b ∷ c ∷ bs) h.1)
 
 within_sound : (most v n : ℕ) → number_within most v ≡ Some n → (n ≡ v) × (v ≤ most)
 within_sound most v n h = go (nat_le v most) refl h
   where
     go : (t : Bool) → nat_le v most ≡ t → cond t (Some v) None ≡ Some n → (n ≡ v) × (v ≤ most)
-    go true is e = (cc, le_from_test v most is)
+    go true is e = (cc, true_le v most is)
     go false is e = cc
 
 pub number_sound : (most : ℕ) (text : List ℕ) (n : ℕ) → number_of most text ≡ Some n → SpellsNumber most text n
@@ -73,7 +53,7 @@ pub number_complete : (most : ℕ) (text : List ℕ) (n : ℕ) → SpellsNumber 
 number_complete most text n s =
     ap (λ t. cond t (number_within most (digits_value 10 text)) None) (test_from_form text s.numeral s.no_zero)
     ∙ ap (number_within most) (sym s.value)
-    ∙ ap (λ t. cond t (Some n) None) (test_from_le n most s.within)
+    ∙ ap (λ t. cond t (Some n) None) (le_true n most s.within)
 
 pub port_sound : (text : List ℕ) (port : ℕ) → port_of text ≡ Some port → SpellsPort text port
 port_sound text port h = go (number_of most_port text) refl h
@@ -82,7 +62,7 @@ port_sound text port h = go (number_of most_port text) refl h
     positive n e = at (nat_lt 0 n) refl e
       where
         at : (t : Bool) → nat_lt 0 n ≡ t → cond t (Some n) None ≡ Some port → (n ≡ port) × (0 < n)
-        at true is f = (cc, lt_from_test 0 n is)
+        at true is f = (cc, true_lt 0 n is)
         at false is f = cc
 
     go : (o : Option ℕ) → number_of most_port text ≡ o → option_and_then unless_zero o ≡ Some port → SpellsPort text port
@@ -94,13 +74,7 @@ port_sound text port h = go (number_of most_port text) refl h
 pub port_complete : (text : List ℕ) (port : ℕ) → SpellsPort text port → port_of text ≡ Some port
 port_complete text port s =
     ap (option_and_then unless_zero) (number_complete most_port text port s.number)
-    ∙ ap (λ t. cond t (Some port) None) (test_from_lt 0 port (omega (arith, s.some)))
-
-eq_from_test : (a b : ℕ) → nat_eq a b ≡ true → a ≡ b
-eq_from_test a b h = grind arith
-
-test_from_eq : (a b : ℕ) → a ≡ b → nat_eq a b ≡ true
-test_from_eq a b h = grind arith
+    ∙ ap (λ t. cond t (Some port) None) (lt_true 0 port (omega (arith, s.some)))
 
 pub status_sound : (text : List ℕ) (status : ℕ) → status_of text ≡ Some status → SpellsStatus text status
 status_sound text status h = go (nat_eq (length text) 3) refl h
@@ -109,7 +83,7 @@ status_sound text status h = go (nat_eq (length text) 3) refl h
     checked n e = at (nat_le 200 n) refl (nat_eq n 421) refl e
       where
         at : (a : Bool) → nat_le 200 n ≡ a → (b : Bool) → nat_eq n 421 ≡ b → cond (a && not b) (Some n) None ≡ Some status → (n ≡ status) × (200 ≤ n) × (n ≢ 421)
-        at true is false other f = (cc, le_from_test 200 n is, other_from_test n 421 other)
+        at true is false other f = (cc, true_le 200 n is, false_eq n 421 other)
         at true is true other f = cc
         at false is b other f = cc
 
@@ -120,12 +94,12 @@ status_sound text status h = go (nat_eq (length text) 3) refl h
         record { three = three; number = subst (SpellsNumber most_status text) p.0 (number_sound most_status text n is); final = omega (arith, p.0, p.1); not_misdirected = λ k. p.2 (p.0 ∙ k) }
 
     go : (t : Bool) → nat_eq (length text) 3 ≡ t → cond t (option_and_then final_status (number_of most_status text)) None ≡ Some status → SpellsStatus text status
-    go true is e = number (number_of most_status text) refl (eq_from_test (length text) 3 is) e
+    go true is e = number (number_of most_status text) refl (true_eq (length text) 3 is) e
     go false is e = cc
 
 pub status_complete : (text : List ℕ) (status : ℕ) → SpellsStatus text status → status_of text ≡ Some status
 status_complete text status s =
-    ap (λ t. cond t (option_and_then final_status (number_of most_status text)) None) (test_from_eq (length text) 3 s.three)
+    ap (λ t. cond t (option_and_then final_status (number_of most_status text)) None) (eq_true (length text) 3 s.three)
     ∙ ap (option_and_then final_status) (number_complete most_status text status s.number)
-    ∙ ap (λ t. cond (t && not (nat_eq status 421)) (Some status) None) (test_from_le 200 status s.final)
-    ∙ ap (λ t. cond (true && not t) (Some status) None) (test_from_other status 421 s.not_misdirected)
+    ∙ ap (λ t. cond (t && not (nat_eq status 421)) (Some status) None) (le_true 200 status s.final)
+    ∙ ap (λ t. cond (true && not t) (Some status) None) (eq_false status 421 s.not_misdirected)

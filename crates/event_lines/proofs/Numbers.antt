@@ -1,43 +1,16 @@
 -- The value of digits, and its bound.
-use Rattle.std.proofs.Common.{◌≡◌, ℕ, ◌+◌, ◌-◌, ◌*◌, ◌/◌, ◌<◌, ◌≤◌, true, false, nat_le, nat_lt, List, [], ◌∷◌, length, drop, get_or, None, refl, subst, arith, add-one}
+use Rattle.std.proofs.Common.{◌≡◌, ℕ, ◌+◌, ◌-◌, ◌*◌, ◌/◌, ◌<◌, ◌≤◌, true, List, ◌∷◌, length, drop, get_or, None, refl, subst, arith, add-one}
 use Rattle.std.proofs.Math.Seq.{drop-cons}
 use Rattle.std.specs.List.{list_all}
 use Rattle.std.specs.Char.{is_ascii_digit, digit_value}
 use Rattle.std.specs.Str.Parse.{digits_value_after}
+use Rattle.alt_base.proofs.Numbers.{le_false}
 use Rattle.event_lines.specs.Fields.{number_within}
 use Rattle.alt_base.proofs.Conjunctions.{both}
-
-pub le_from_test : (a b : ℕ) → nat_le a b ≡ true → a ≤ b
-le_from_test a b h = grind arith
-
-pub test_from_le : (a b : ℕ) → a ≤ b → nat_le a b ≡ true
-test_from_le a b h = grind arith
-
-pub le_test_false : (a b : ℕ) → b < a → nat_le a b ≡ false
-le_test_false a b h = grind arith
-
-test_from_lt : (a b : ℕ) → a < b → nat_lt a b ≡ true
-test_from_lt a b h = grind arith
-
-test_from_ge : (a b : ℕ) → b ≤ a → nat_lt a b ≡ false
-test_from_ge a b h = grind arith
-
--- a digit's code and value
-pub digit_code : (b : ℕ) → is_ascii_digit b ≡ true → (48 ≤ b) × (b ≤ 57)
-digit_code b h = let t = both (nat_le 48 b) (nat_le b 57) h in (le_from_test 48 b t.0, le_from_test b 57 t.1)
-
-pub value_of_digit : (b : ℕ) → is_ascii_digit b ≡ true → digit_value b ≡ b - 48
-value_of_digit b h =
-    let code = digit_code b h in
-    rw (test_from_ge b 48 code.0, test_from_lt b 58 (omega (arith, code.1))) refl
-
--- more digits only make the value larger
-pub value_grows : (ds : List ℕ) (n : ℕ) → n ≤ digits_value_after 10 n ds
-value_grows [] n = omega arith
-value_grows (c ∷ cs) n = omega (arith, value_grows cs (n * 10 + digit_value c))
+use Rattle.alt_base.proofs.Digits.{digit_code, value_of_digit, value_grows}
 
 none_within : (most n : ℕ) → most < n → None ≡ number_within most n
-none_within most n h = rw (le_test_false n most h) refl
+none_within most n h = rw (le_false n most h) refl
 
 -- the digits from a place on, as its digit and those behind it
 record Digit (b : ℕ) (rest : List ℕ) : Type 0 where

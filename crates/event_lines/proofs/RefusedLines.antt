@@ -2,7 +2,8 @@
 use Rattle.std.proofs.Common.{◌≡◌, ◌≢◌, ◌⊎◌, ℕ, ◌+◌, Bool, true, false, cond, nat_eq, List, [], ◌∷◌, ◌++◌, length, Option, Some, None, Ok, Err, append-nil, refl, ap, sym, ◌∙◌, subst, inl, inr}
 use Rattle.std.specs.Cmp.Lexicographic.{pointwise, same_text, other_text}
 use Rattle.alt_base.specs.declared.refusal.At.{At}
-use Rattle.event_lines.specs.Fields.{most_short, number_of}
+use Rattle.event_lines.specs.Fields.{number_of}
+use Rattle.event_lines.specs.Limits.{most_short}
 use Rattle.event_lines.specs.Parts.{Part}
 use Rattle.event_lines.specs.LineReading.{kind_reading, line_reading}
 use Rattle.event_lines.specs.LineGrammar.{SpellsNumber, SpellsLine}
@@ -17,18 +18,11 @@ use Rattle.event_lines.proofs.Skeleton.{pass_fields, fields_refused, fields_say}
 use Rattle.event_lines.proofs.KindsPass.{pass_kind, kinds_pass}
 use Rattle.event_lines.proofs.LineCases.{Said, part, bad_line, whole, skip_reads, no_moment, with_moment, with_kind, no_kind, Kinded, Line, Skipped, Wordless, Alone, Full, line_of}
 use Rattle.event_lines.proofs.Lines.{said, said_parts, said_err, at_place, whole_refused, whole_says, line_sound, line_complete}
+use Rattle.alt_base.proofs.Lists.{text_true}
 
 refused_parts : (p q : ℕ) (r s : LineRefusal) → bad_line p r ≡ bad_line q s → (p ≡ q) × (r ≡ s)
 refused_parts p q r s e =
     let h = said_err (at_place p r) (at_place q s) e in (ap (λ (x : At LineRefusal). x.place) h, ap (λ (x : At LineRefusal). x.reason) h)
-
--- names
-name_test : (name kind : List ℕ) → name ≡ kind → pointwise nat_eq name kind ≡ true
-name_test name kind same = go (pointwise nat_eq name kind) refl
-  where
-    go : (t : Bool) → pointwise nat_eq name kind ≡ t → t ≡ true
-    go true is = refl
-    go false is = absurd (other_text name kind (sym is) same)
 
 other_name : (name kind : List ℕ) → name ≢ kind → pointwise nat_eq name kind ≡ false
 other_name name kind other = go (pointwise nat_eq name kind) refl
@@ -45,7 +39,7 @@ none_pass (kind ∷ more) name p rest h =
 among_pass : (kinds : List Kind) (name : List ℕ) (forms : Forms) (p : ℕ) (rest : Part) → IsAmong kinds name forms → pass_kind kinds (part name p) rest ≡ pass_fields forms rest
 among_pass [] name forms p rest h = absurd h
 among_pass (kind ∷ more) name forms p rest (inl h) =
-    ap (λ t. cond t (pass_fields kind.forms rest) (pass_kind more (part name p) rest)) (name_test name kind.name h.0) ∙ ap (λ f. pass_fields f rest) (sym h.1)
+    ap (λ t. cond t (pass_fields kind.forms rest) (pass_kind more (part name p) rest)) (text_true name kind.name h.0) ∙ ap (λ f. pass_fields f rest) (sym h.1)
 among_pass (kind ∷ more) name forms p rest (inr h) =
     ap (λ t. cond t (pass_fields kind.forms rest) (pass_kind more (part name p) rest)) (other_name name kind.name h.0) ∙ among_pass more name forms p rest h.1
 

@@ -1,10 +1,12 @@
 -- The reading of a status and of the fields behind it against their grammar.
-use Rattle.std.proofs.Common.{◌≡◌, ◌⊎◌, ℕ, ◌+◌, ◌≤◌, Bool, true, false, cond, not, ◌&&◌, List, [], ◌∷◌, ◌++◌, length, Option, Some, None, Result, Ok, Err, append_assoc, append-nil, refl, ap, sym, ◌∙◌, subst, arith, inl, inr}
+use Rattle.std.proofs.Common.{◌≡◌, ◌⊎◌, ℕ, ◌+◌, ◌≤◌, Bool, true, false, cond, not, List, [], ◌∷◌, ◌++◌, length, Option, Some, None, Result, Ok, Err, append_assoc, append-nil, refl, ap, sym, ◌∙◌, subst, arith, inl, inr}
 use Rattle.std.specs.Char.{is_ascii_digit}
+use Rattle.std.proofs.lemmas.Bool.{and_from}
+use Rattle.alt_base.proofs.Numbers.{true_eq}
 use Rattle.alt_base.specs.declared.refusal.At.{At}
 use Rattle.field_text.specs.Runs.{AllIn, BeginsIn, run_of, after_run}
 use Rattle.field_text.proofs.RunLemmas.{longest_run, run_of-append, after_run-append}
-use Rattle.origin_values.proofs.Names.{digits_pass}
+use Rattle.alt_base.proofs.Digits.{digits_all}
 use Rattle.event_lines.specs.Fields.{status_of}
 use Rattle.event_lines.specs.Parts.{Part, is_space, refused, Reading, ◌>>=◌, value_or}
 use Rattle.event_lines.specs.LineReading.{end_reading}
@@ -17,7 +19,6 @@ use Rattle.event_lines.specs.declared.response.Reply.{Reply}
 use Rattle.event_lines.specs.declared.refusal.LineRefusal.{LineRefusal}
 use Rattle.event_lines.specs.declared.refusal.LineRefusal.TheVariants.{BadField, ExtraField}
 use Rattle.event_lines.proofs.Refusals.{Passed, passed, bad, same_refusal, refusal_parts, got_parts}
-use Rattle.event_lines.proofs.Spaces.{same_from_test}
 use Rattle.event_lines.proofs.NumberTexts.{status_sound, status_complete}
 use Rattle.event_lines.proofs.FieldSteps.{behind_texts}
 use Rattle.event_lines.proofs.FieldSpellings.{all_in, one_other}
@@ -28,9 +29,6 @@ part text place = record { text = text; place = place }
 
 clash : false ≡ true → ⊥
 clash e = cc
-
-and_from : (a b : Bool) → a ≡ true → b ≡ true → (a && b) ≡ true
-and_from a b h k = rw (h, k) refl
 
 -- a status, and nothing behind its fields
 abbrev pub pass_reply : Part → Passed
@@ -45,7 +43,7 @@ digits_apart [] h = tt
 digits_apart (b ∷ bs) h = (and_from _ _ (one_other is_ascii_digit 32 b refl h.0) (one_other is_ascii_digit 9 b refl h.0), digits_apart bs h.1)
 
 pub status_apart : (text : List ℕ) (status : ℕ) → SpellsStatus text status → AllIn is_word_byte text
-status_apart text status s = digits_apart text (all_in is_ascii_digit text (digits_pass text s.number.numeral.1))
+status_apart text status s = digits_apart text (all_in is_ascii_digit text (digits_all text s.number.numeral.1))
 
 pub tab_ends : (bs : List ℕ) → BeginsIn is_word_byte (9 ∷ bs) → ⊥
 tab_ends bs h = clash h
@@ -187,7 +185,7 @@ space_of : (c : ℕ) → (is_word_byte c ≡ true → ⊥) → is_tab c ≡ fals
 space_of c ends other = go (is_space c) refl
   where
     go : (t : Bool) → is_space c ≡ t → c ≡ 32
-    go true is = same_from_test c 32 is
+    go true is = true_eq c 32 is
     go false is = absurd (ends (and_from _ _ (ap not is) (ap not other)))
 
 tab_end : (c : ℕ) → is_tab c ≡ true → is_field_byte c ≡ true → ⊥
@@ -213,7 +211,7 @@ behind_refused begin text word (c ∷ cs) status place reason s of_status h = go
 
     go : (t : Bool) → is_tab c ≡ t → StatusRefusedAt begin text place reason
     go true is =
-        at_field (fields_from 0 (begin + 1 + length word + 1) (field_texts cs)) refl (same_from_test c 9 is)
+        at_field (fields_from 0 (begin + 1 + length word + 1) (field_texts cs)) refl (true_eq c 9 is)
         (sym (reply_passes (c ∷ cs) (begin + 1 + length word) (tab_end c is)) ∙ h)
     go false is = at_space (space_of c s.end is)
 
@@ -329,5 +327,5 @@ reply_found event_of (b ∷ bs) place event left h none = go (is_tab b) refl h
 
     go : (t : Bool) → is_tab b ≡ t → (cond t (replied (place + 1 + length bs) (fields_from 0 (place + 1) (field_texts bs))) (Ok (reply_of [], part (b ∷ bs) place)) >>= λ (r : Reply × Part). got (event_of r.0) r.1) ≡ got event left
         → ReplyFound event_of (b ∷ bs) event
-    go true is e = at (fields_from 0 (place + 1) (field_texts bs)) refl (same_from_test b 9 is) e
+    go true is e = at (fields_from 0 (place + 1) (field_texts bs)) refl (true_eq b 9 is) e
     go false is e = absurd (more left (got_parts (event_of (reply_of [])) event (part (b ∷ bs) place) left e).1 none)

@@ -1,24 +1,13 @@
 -- Words and the spaces between them.
 use Rattle.std.proofs.Common.{◌≡◌, ◌≢◌, ℕ, ◌+◌, Bool, true, false, cond, not, nat_eq, List, [], ◌∷◌, ◌++◌, length, Ok, refl, ap, ◌∙◌, arith}
 use Rattle.std.specs.List.{list_all}
+use Rattle.alt_base.proofs.Numbers.{eq_false, eq_true, false_eq, true_eq}
 use Rattle.event_lines.specs.Parts.{Part, is_space, before_space, from_space, Reading, word_behind, next_word}
 use Rattle.event_lines.specs.LineGrammar.{NoSpace, spaced}
 use Rattle.event_lines.specs.LineRefusals.{EndsWord, IsFront, IsNext}
 use Rattle.event_lines.specs.declared.refusal.LineRefusal.{LineRefusal}
 use Rattle.alt_base.proofs.Conjunctions.{both}
 use Rattle.event_lines.proofs.Words.{word_split}
-
-pub same_from_test : (a b : ℕ) → nat_eq a b ≡ true → a ≡ b
-same_from_test a b h = grind arith
-
-pub test_from_same : (a b : ℕ) → a ≡ b → nat_eq a b ≡ true
-test_from_same a b h = grind arith
-
-pub test_from_other : (a b : ℕ) → a ≢ b → nat_eq a b ≡ false
-test_from_other a b h = grind arith
-
-pub other_from_test : (a b : ℕ) → nat_eq a b ≡ false → a ≢ b
-other_from_test a b h = grind arith
 
 -- a byte other than a space
 abbrev pub is_inner : ℕ → Bool
@@ -41,14 +30,14 @@ word_apart (b ∷ bs) = go (is_space b) refl (word_apart bs)
   where
     go : (t : Bool) → is_space b ≡ t → NoSpace (before_space bs) → NoSpace (cond t [] (b ∷ before_space bs))
     go true is h = tt
-    go false is h = (other_from_test b 32 is, h)
+    go false is h = (false_eq b 32 is, h)
 
 pub word_ends : (x : List ℕ) → EndsWord (from_space x)
 word_ends [] = tt
 word_ends (b ∷ bs) = go (is_space b) refl (word_ends bs)
   where
     go : (t : Bool) → is_space b ≡ t → EndsWord (from_space bs) → EndsWord (cond t (b ∷ bs) (from_space bs))
-    go true is h = same_from_test b 32 is
+    go true is h = true_eq b 32 is
     go false is h = h
 
 pub front_of : (x : List ℕ) → IsFront x (before_space x) (from_space x)
@@ -57,22 +46,22 @@ front_of x = record { spelled = word_split x; apart = word_apart x; end = word_e
 -- and the other way round
 before_end : (behind : List ℕ) → EndsWord behind → before_space behind ≡ []
 before_end [] h = refl
-before_end (b ∷ bs) h = ap (λ t. cond t [] (b ∷ before_space bs)) (test_from_same b 32 h)
+before_end (b ∷ bs) h = ap (λ t. cond t [] (b ∷ before_space bs)) (eq_true b 32 h)
 
 from_end : (behind : List ℕ) → EndsWord behind → from_space behind ≡ behind
 from_end [] h = refl
-from_end (b ∷ bs) h = ap (λ t. cond t (b ∷ bs) (from_space bs)) (test_from_same b 32 h)
+from_end (b ∷ bs) h = ap (λ t. cond t (b ∷ bs) (from_space bs)) (eq_true b 32 h)
 
 pub before_front : (word behind : List ℕ) → NoSpace word → EndsWord behind → before_space (word ++ behind) ≡ word
 before_front [] behind h end = before_end behind end
 before_front (b ∷ bs) behind h end =
-    ap (λ t. cond t [] (b ∷ before_space (bs ++ behind))) (test_from_other b 32 h.0)
+    ap (λ t. cond t [] (b ∷ before_space (bs ++ behind))) (eq_false b 32 h.0)
     ∙ ap (λ xs. b ∷ xs) (before_front bs behind h.1 end)
 
 pub from_front : (word behind : List ℕ) → NoSpace word → EndsWord behind → from_space (word ++ behind) ≡ behind
 from_front [] behind h end = from_end behind end
 from_front (b ∷ bs) behind h end =
-    ap (λ t. cond t (b ∷ (bs ++ behind)) (from_space (bs ++ behind))) (test_from_other b 32 h.0) ∙ from_front bs behind h.1 end
+    ap (λ t. cond t (b ∷ (bs ++ behind)) (from_space (bs ++ behind))) (eq_false b 32 h.0) ∙ from_front bs behind h.1 end
 
 abbrev part : List ℕ → ℕ → Part
 part text place = record { text = text; place = place }

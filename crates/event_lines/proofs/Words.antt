@@ -1,6 +1,7 @@
 -- The word in front of a text.
 use Rattle.std.proofs.Common.{◌≡◌, ℕ, ◌+◌, ◌-◌, ◌≤◌, Bool, true, false, cond, List, [], ◌∷◌, ◌++◌, length, take, drop, refl, ap, ◌∙◌, arith, length-drop}
 use Rattle.std.proofs.lemmas.List.{take_all}
+use Rattle.std.proofs.Math.Seq.{drop-append_seam, take-append_seam}
 use Rattle.event_lines.specs.Parts.{Part, is_space, before_space, from_space, first_word, behind_word}
 
 -- the word and what is left make up the text
@@ -12,19 +13,11 @@ word_split (b ∷ bs) = go (is_space b) (word_split bs)
     go true rec = refl
     go false rec = ap (λ xs. b ∷ xs) rec
 
-pub take_front : (xs ys : List ℕ) → take (length xs) (xs ++ ys) ≡ xs
-take_front [] ys = refl
-take_front (x ∷ xs) ys = ap (λ zs. x ∷ zs) (take_front xs ys)
-
-pub drop_front : (xs ys : List ℕ) → drop (length xs) (xs ++ ys) ≡ ys
-drop_front [] ys = refl
-drop_front (x ∷ xs) ys = drop_front xs ys
-
 pub word_taken : (x : List ℕ) → take (length (before_space x)) x ≡ before_space x
-word_taken x = ap (take (length (before_space x))) (word_split x) ∙ take_front (before_space x) (from_space x)
+word_taken x = ap (take (length (before_space x))) (word_split x) ∙ take-append_seam (before_space x) (from_space x)
 
 pub word_dropped : (x : List ℕ) → drop (length (before_space x)) x ≡ from_space x
-word_dropped x = ap (drop (length (before_space x))) (word_split x) ∙ drop_front (before_space x) (from_space x)
+word_dropped x = ap (drop (length (before_space x))) (word_split x) ∙ drop-append_seam (before_space x) (from_space x)
 
 abbrev part_of : List ℕ → ℕ → Part
 part_of text place = record { text = text; place = place }

@@ -1,31 +1,33 @@
--- The line of an event says it, and what a line says has a line.
+-- The line of an event says it.
 use Rattle.std.proofs.Common.{◌≡◌, ℕ, zero, suc, ◌+◌, ◌*◌, true, ◌<◌, ◌≤◌, ◌^◌, List, [], ◌∷◌, ◌++◌, length, Option, Some, None, ◌≢◌, get_or, decimal, codes, append_assoc, append-nil, refl, sym, subst, arith, inl, inr}
 use Rattle.std.proofs.lemmas.Fmt.{decimal_is_IsNumeral, decimal_digit, first_decimal}
 use Rattle.std.proofs.lemmas.Str.Parse.{digit_from_value}
 use Rattle.std.specs.Char.{is_ascii_digit, digit_value}
-use Rattle.event_lines.proofs.Numbers.{test_from_le, value_grows, value_of_digit}
+use Rattle.alt_base.proofs.Numbers.{le_true}
 use Rattle.origin_values.specs.Written.{addr_text, origin_text}
 use Rattle.origin_values.specs.declared.address.Addr.{Addr}
 use Rattle.origin_values.specs.declared.proto.Proto.{Proto}
 use Rattle.origin_values.specs.declared.proto.Proto.TheVariants.{H2, H3, Http11, Other}
-use Rattle.origin_values.proofs.AddressTexts.{addr_written, addr_valid}
-use Rattle.origin_values.proofs.OriginTexts.{origin_written, origin_valid}
+use Rattle.origin_values.proofs.AddressTexts.{addr_written}
+use Rattle.origin_values.proofs.OriginTexts.{origin_written}
 use Rattle.coalescing.specs.NamesWritten.{names_text}
 use Rattle.coalescing.specs.declared.cert_name.CertName.{CertName}
-use Rattle.coalescing.proofs.NamesTexts.{names_written, names_valid}
+use Rattle.coalescing.proofs.NamesTexts.{names_written}
 use Rattle.route_events.specs.declared.fact.Fact.{Fact}
 use Rattle.route_events.specs.declared.fact.Fact.TheVariants.{Request, Opened, Failed, Closed, Response, Network, Tick}
 use Rattle.event_lines.specs.EventTexts.{proto_text, opened_text, fact_text, event_text}
-use Rattle.event_lines.specs.Fields.{most_short, most_long, most_port, most_status}
-use Rattle.event_lines.specs.HaveLines.{HasOpenedLine, HasFactLine, HasLine, HasNoLastSpace}
-use Rattle.event_lines.specs.LineGrammar.{NoLeadingZero, SpellsNumber, SpellsStatus, NoSpace, spaced, SpellsOpened, SpellsKind, SpellsEvent, SpellsLine}
+use Rattle.event_lines.specs.Limits.{most_short, most_long, most_port, most_status}
+use Rattle.event_lines.specs.HaveLines.{HasNoLastSpace, HasLine}
+use Rattle.event_lines.specs.Valid.{IsOpened, IsOptional, IsFact}
+use Rattle.event_lines.specs.LineGrammar.{NoLeadingZero, SpellsNumber, SpellsStatus, NoSpace, spaced, SpellsOpened, SpellsKind, SpellsLine}
 use Rattle.event_lines.specs.LineReading.{line_reading}
 use Rattle.event_lines.specs.declared.event.Event.{Event}
 use Rattle.event_lines.specs.declared.event.Event.TheVariants.{Client, Skip}
-use Rattle.event_lines.proofs.WrittenResponses.{number_value, response_written, EndsPlain, response_valid}
+use Rattle.event_lines.proofs.WrittenResponses.{HasField, number_value, response_written}
 use Rattle.event_lines.proofs.InnerBytes.{number_inner, addr_inner, origin_inner, names_inner}
 use Rattle.event_lines.proofs.Spaces.{IsInner, no_space_from}
 use Rattle.event_lines.proofs.Lines.{said, line_complete}
+use Rattle.alt_base.proofs.Digits.{value_of_digit, value_grows}
 
 leads : (text : List ℕ) → 48 < get_or text 0 0 → NoLeadingZero text
 leads [] h = tt
@@ -62,7 +64,7 @@ failed_joined n = simp append-nil
 closed_joined : (n : List ℕ) → 32 ∷ (codes "closed " ++ n) ≡ spaced (codes "closed" ∷ n ∷ [])
 closed_joined n = simp append-nil
 
-opened_written : (attempt : ℕ) (proto : Proto) (addr : Addr) (port : ℕ) (names : List CertName) → HasOpenedLine attempt addr port names → SpellsOpened (32 ∷ opened_text attempt proto addr port names) attempt proto addr port names
+opened_written : (attempt : ℕ) (proto : Proto) (addr : Addr) (port : ℕ) (names : List CertName) → IsOpened attempt addr port names → SpellsOpened (32 ∷ opened_text attempt proto addr port names) attempt proto addr port names
 opened_written attempt proto addr port names h = record {
   attempt_text = decimal attempt;
   protocol_text = proto_text proto;
@@ -91,7 +93,7 @@ opened_written attempt proto addr port names h = record {
 }
 
 digit_test : (b : ℕ) → 48 ≤ b → b ≤ 57 → is_ascii_digit b ≡ true
-digit_test b low high = rw (test_from_le 48 b low, test_from_le b 57 high) refl
+digit_test b low high = rw (le_true 48 b low, le_true b 57 high) refl
 
 -- a digit other than 0
 first_digit : (b : ℕ) → digit_value b < 10 → b ≢ 48 → 1 ≤ digit_value b
@@ -115,8 +117,13 @@ status_written status least within other =
     let number = number_written most_status status (omega arith) within in
     record { three = three_digits (decimal status) status number least; number = number; final = least; not_misdirected = other }
 
-fact_written : (fact : Fact) → HasFactLine fact → SpellsKind (32 ∷ fact_text fact) (Client fact)
-fact_written (Request number origin) h = record {
+-- the value of Alt-Svc is that of one field
+one_field : (request status age : ℕ) (altsvc : Option (List ℕ)) → IsOptional altsvc → HasNoLastSpace (Client (Response request status age altsvc)) → HasField altsvc
+one_field request status age None is end = tt
+one_field request status age (Some value) is end = record { bytes = is.bytes; begin = is.begin; end = end }
+
+fact_written : (fact : Fact) → IsFact fact → HasNoLastSpace (Client fact) → SpellsKind (32 ∷ fact_text fact) (Client fact)
+fact_written (Request number origin) h end = record {
   number_text = decimal number;
   origin_text = origin_text origin;
   spelled = request_joined (decimal number) (origin_text origin);
@@ -124,15 +131,15 @@ fact_written (Request number origin) h = record {
   of_number = number_written most_short number (omega arith) h.0;
   of_origin = origin_written origin h.1;
 }
-fact_written (Opened attempt proto addr port names) h = opened_written attempt proto addr port names h
-fact_written (Failed attempt) h = record { number_text = decimal attempt; spelled = failed_joined (decimal attempt); apart = number_apart most_long attempt (omega arith) h; of_number = number_written most_long attempt (omega arith) h }
-fact_written (Closed conn) h = record { number_text = decimal conn; spelled = closed_joined (decimal conn); apart = number_apart most_long conn (omega arith) h; of_number = number_written most_long conn (omega arith) h }
-fact_written (Response request status age altsvc) h =
-    response_written request status age altsvc h.of_altsvc (number_value age (omega (arith, h.age_within)) (no_space_from (decimal age) (number_inner age (omega (arith, h.age_within))))) h.age_within
+fact_written (Opened attempt proto addr port names) h end = opened_written attempt proto addr port names h
+fact_written (Failed attempt) h end = record { number_text = decimal attempt; spelled = failed_joined (decimal attempt); apart = number_apart most_long attempt (omega arith) h; of_number = number_written most_long attempt (omega arith) h }
+fact_written (Closed conn) h end = record { number_text = decimal conn; spelled = closed_joined (decimal conn); apart = number_apart most_long conn (omega arith) h; of_number = number_written most_long conn (omega arith) h }
+fact_written (Response request status age altsvc) h end =
+    response_written request status age altsvc (one_field request status age altsvc h.of_altsvc end) (number_value age (omega (arith, h.age_within)) (no_space_from (decimal age) (number_inner age (omega (arith, h.age_within))))) h.age_within
     (number_apart most_short request (omega arith) h.request_within) (number_written most_short request (omega arith) h.request_within)
     (status_written status h.final h.status_within h.not_misdirected)
-fact_written Network h = refl
-fact_written Tick h = refl
+fact_written Network h end = refl
+fact_written Tick h end = refl
 
 -- the line of an event says it
 pub line_written : (now : ℕ) (event : Event) → HasLine now event → SpellsLine (event_text now event) now event
@@ -140,38 +147,10 @@ line_written now (Client fact) h = inr (record {
   moment = decimal now;
   text = 32 ∷ fact_text fact;
   spelled = append_assoc (decimal now) (32 ∷ []) (fact_text fact);
-  of_moment = number_written most_short now (omega arith) h.0;
-  of_kind = fact_written fact h.1;
+  of_moment = number_written most_short now (omega arith) h.valid.0;
+  of_kind = fact_written fact h.valid.1 h.end;
 })
-line_written now Skip h = inl (record { skipped = tt; at = h; nothing = refl })
+line_written now Skip h = inl (record { skipped = tt; at = h.valid; nothing = refl })
 
 pub line_back : (now : ℕ) (event : Event) → HasLine now event → line_reading (event_text now event) ≡ said now event
 line_back now event h = line_complete (event_text now event) now event (line_written now event h)
-
--- what a line says has a line
-plain_end : (request status age : ℕ) (altsvc : Option (List ℕ)) → HasNoLastSpace (Client (Response request status age altsvc)) → EndsPlain altsvc
-plain_end request status age None h = tt
-plain_end request status age (Some value) h = h
-
-fact_valid : (text : List ℕ) (fact : Fact) → SpellsKind text (Client fact) → HasNoLastSpace (Client fact) → HasFactLine fact
-fact_valid text (Request number origin) s end = (s.of_number.within, origin_valid s.origin_text origin s.of_origin)
-fact_valid text (Opened attempt proto addr port names) s end = record {
-  attempt_within = s.of_attempt.within;
-  of_addr = addr_valid s.addr_text addr s.of_addr;
-  some_port = s.of_port.some;
-  port_within = s.of_port.number.within;
-  of_names = names_valid s.names_text names s.of_names;
-}
-fact_valid text (Failed attempt) s end = s.of_number.within
-fact_valid text (Closed conn) s end = s.of_number.within
-fact_valid text (Response request status age altsvc) s end = response_valid text request status age altsvc s (plain_end request status age altsvc end)
-fact_valid text Network s end = tt
-fact_valid text Tick s end = tt
-
-event_valid : (line : List ℕ) (now : ℕ) (event : Event) → SpellsEvent line now event → HasNoLastSpace event → HasLine now event
-event_valid line now (Client fact) s end = (s.of_moment.within, fact_valid s.text fact s.of_kind end)
-event_valid line now Skip s end = absurd s.of_kind
-
-pub line_valid : (line : List ℕ) (now : ℕ) (event : Event) → SpellsLine line now event → HasNoLastSpace event → HasLine now event
-line_valid line now event (inl s) end = subst (HasLine now) (sym s.nothing) s.at
-line_valid line now event (inr s) end = event_valid line now event s end

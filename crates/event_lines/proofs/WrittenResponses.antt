@@ -1,22 +1,25 @@
--- The line of a response says it, and what a response says has a line.
-use Rattle.std.proofs.Common.{◌≡◌, ℕ, ◌<◌, ◌≤◌, ◌^◌, Bool, true, false, cond, nat_eq, nat_le, List, [], ◌∷◌, ◌++◌, length, decimal, codes, Option, Some, None, append_assoc, append-nil, unwrap_or, refl, ap, sym, ◌∙◌, subst, arith}
+-- The line of a response says it.
+use Rattle.std.proofs.Common.{◌≡◌, ℕ, ◌<◌, ◌≤◌, ◌^◌, Bool, true, false, cond, nat_eq, List, [], ◌∷◌, ◌++◌, length, decimal, codes, Option, Some, None, append_assoc, append-nil, inl, refl, ap, sym, ◌∙◌, arith}
 use Rattle.std.specs.Str.Parse.{AllDigits}
 use Rattle.std.proofs.lemmas.Str.Parse.{digit_from_value}
 use Rattle.std.proofs.lemmas.Fmt.{decimal_is_IsNumeral}
+use Rattle.alt_base.proofs.Numbers.{le_true, true_eq}
 use Rattle.field_text.specs.Runs.{AllIn, BeginsIn}
 use Rattle.field_text.specs.DeltaGrammar.{greatest_delta_seconds}
-use Rattle.field_text.specs.DeltaReading.{read_delta_seconds}
-use Rattle.field_text.proofs.DeltaLemmas.{decimal_spells, DeltaSays, delta_says, delta_spelled}
+use Rattle.field_text.proofs.DeltaLemmas.{decimal_spells}
 use Rattle.http_header.specs.Token.{lowercase}
 use Rattle.http_header.specs.FieldName.{IsFieldName}
 use Rattle.http_header.proofs.TokenLemmas.{IsFieldName-from_test}
 use Rattle.event_lines.specs.EventTexts.{age_text, altsvc_text, response_text}
-use Rattle.event_lines.specs.Fields.{most_short}
-use Rattle.event_lines.specs.HaveLines.{HasValueLine, HasResponseLine}
+use Rattle.event_lines.specs.Limits.{most_short}
 use Rattle.event_lines.specs.Parts.{is_space}
 use Rattle.event_lines.specs.LineGrammar.{NoSpace, spaced, SpellsNumber, SpellsStatus, SpellsResponse}
-use Rattle.event_lines.specs.ResponseGrammar.{Field, is_value_byte, EndsInSpace, IsValue, SpellsField, SpellFields, tabbed, most_fields, is_named, values_of, seconds_of, first_seconds, further_values, joined_values, age_of, altsvc_of}
-use Rattle.event_lines.proofs.FieldSpellings.{in_append}
+use Rattle.event_lines.specs.ResponseGrammar.{Field, is_value_byte, EndsInSpace, IsValue, SpellsField, SpellFields, tabbed, most_fields, HaveAge, altsvc_of}
+
+-- the value, if there is one, is that of one field
+abbrev pub HasField : Option (List ℕ) → Type 0
+HasField None = Unit {0}
+HasField (Some value) = IsValue value
 
 abbrev field : List ℕ → List ℕ → Field
 field name value = record { name = name; value = value }
@@ -38,12 +41,9 @@ field_written name value named lower valid = record {
 clash : false ≡ true → ⊥
 clash e = cc
 
-test_from_le : (a b : ℕ) → a ≤ b → nat_le a b ≡ true
-test_from_le a b h = grind arith
-
 -- digits are a value
 value_byte : (b : ℕ) → 32 ≤ b → b ≤ 126 → is_value_byte b ≡ true
-value_byte b low high = rw (test_from_le 32 b low, test_from_le b 126 high) refl
+value_byte b low high = rw (le_true 32 b low, le_true b 126 high) refl
 
 digits_value : (ds : List ℕ) → AllDigits 10 ds → AllIn is_value_byte ds
 digits_value [] h = tt
@@ -81,7 +81,7 @@ abbrev pub altsvc_texts : Option (List ℕ) → List (List ℕ)
 altsvc_texts None = []
 altsvc_texts (Some value) = (codes "alt-svc: " ++ value) ∷ []
 
-pub fields_written : (zero : Bool) (age : ℕ) (altsvc : Option (List ℕ)) → IsValue (decimal age) → HasValueLine altsvc → SpellFields (age_texts zero age ++ altsvc_texts altsvc) (age_fields zero age ++ altsvc_fields altsvc)
+pub fields_written : (zero : Bool) (age : ℕ) (altsvc : Option (List ℕ)) → IsValue (decimal age) → HasField altsvc → SpellFields (age_texts zero age ++ altsvc_texts altsvc) (age_fields zero age ++ altsvc_fields altsvc)
 fields_written true age None valid h = tt
 fields_written true age (Some value) valid h = (field_written (codes "alt-svc") value (IsFieldName-from_test (codes "alt-svc") refl) refl h, tt)
 fields_written false age None valid h = (field_written (codes "age") (decimal age) (IsFieldName-from_test (codes "age") refl) refl valid, tt)
@@ -102,17 +102,11 @@ tabs_written true age (Some value) = simp append-nil
 tabs_written false age None = simp append-nil
 tabs_written false age (Some value) = simp (append_assoc, append-nil)
 
-same_from_test : (a b : ℕ) → nat_eq a b ≡ true → a ≡ b
-same_from_test a b h = grind arith
-
-seconds_back : (age : ℕ) → age ≤ greatest_delta_seconds → seconds_of (decimal age) ≡ age
-seconds_back age within = ap (λ o. unwrap_or o 0) (delta_spelled age (decimal age) (decimal_spells age within))
-
-pub age_back : (zero : Bool) (age : ℕ) (altsvc : Option (List ℕ)) → nat_eq age 0 ≡ zero → age ≤ greatest_delta_seconds → age ≡ age_of (age_fields zero age ++ altsvc_fields altsvc)
-age_back true age None is within = same_from_test age 0 is
-age_back true age (Some value) is within = same_from_test age 0 is
-age_back false age None is within = sym (seconds_back age within)
-age_back false age (Some value) is within = sym (seconds_back age within)
+pub age_back : (zero : Bool) (age : ℕ) (altsvc : Option (List ℕ)) → nat_eq age 0 ≡ zero → age ≤ greatest_delta_seconds → HaveAge (age_fields zero age ++ altsvc_fields altsvc) age
+age_back true age None is within = true_eq age 0 is
+age_back true age (Some value) is within = true_eq age 0 is
+age_back false age None is within = inl (decimal_spells age within)
+age_back false age (Some value) is within = inl (decimal_spells age within)
 
 pub altsvc_back : (zero : Bool) (age : ℕ) (altsvc : Option (List ℕ)) → altsvc ≡ altsvc_of (age_fields zero age ++ altsvc_fields altsvc)
 altsvc_back true age None = refl
@@ -123,7 +117,7 @@ altsvc_back false age (Some value) = ap (λ (v : List ℕ). let o : Option (List
 response_spaced : (q s a v : List ℕ) → 32 ∷ (codes "response " ++ q ++ codes " " ++ s ++ a ++ v) ≡ spaced (codes "response" ∷ q ∷ s ∷ []) ++ (a ++ v)
 response_spaced q s a v = simp (append_assoc, append-nil)
 
-pub response_written : (request status age : ℕ) (altsvc : Option (List ℕ)) → HasValueLine altsvc → IsValue (decimal age) → age ≤ greatest_delta_seconds → NoSpace (decimal request) → SpellsNumber most_short (decimal request) request
+pub response_written : (request status age : ℕ) (altsvc : Option (List ℕ)) → HasField altsvc → IsValue (decimal age) → age ≤ greatest_delta_seconds → NoSpace (decimal request) → SpellsNumber most_short (decimal request) request
     → SpellsStatus (decimal status) status → SpellsResponse (32 ∷ response_text request status age altsvc) request status age altsvc
 response_written request status age altsvc h valid within apart of_request of_status = record {
   request_text = decimal request;
@@ -139,65 +133,4 @@ response_written request status age altsvc h valid within apart of_request of_st
   within = few_written (nat_eq age 0) age altsvc;
   of_age = age_back (nat_eq age 0) age altsvc refl within;
   of_altsvc = altsvc_back (nat_eq age 0) age altsvc;
-}
-
--- what the fields of a response say
-seconds_within : (value : List ℕ) → seconds_of value ≤ greatest_delta_seconds
-seconds_within value = go (read_delta_seconds value) (delta_says value)
-  where
-    go : (o : Option ℕ) → DeltaSays value o → unwrap_or o 0 ≤ greatest_delta_seconds
-    go None h = omega arith
-    go (Some n) h = omega (arith, h.value)
-
-pub age_within : (fields : List Field) → age_of fields ≤ greatest_delta_seconds
-age_within fields = go (values_of (codes "age") fields)
-  where
-    go : (values : List (List ℕ)) → unwrap_or (first_seconds values) 0 ≤ greatest_delta_seconds
-    go [] = omega arith
-    go (value ∷ values) = seconds_within value
-
-abbrev AreValues : List (List ℕ) → Type 0
-AreValues [] = Unit {0}
-AreValues (value ∷ values) = IsValue value × AreValues values
-
-are_values : (name : List ℕ) (texts : List (List ℕ)) (fields : List Field) → SpellFields texts fields → AreValues (values_of name fields)
-are_values name [] [] h = tt
-are_values name [] (field ∷ fields) h = absurd h
-are_values name (text ∷ texts) [] h = absurd h
-are_values name (text ∷ texts) (field ∷ fields) h = go (is_named name field) (are_values name texts fields h.1)
-  where
-    go : (t : Bool) → AreValues (values_of name fields) → AreValues (cond t (field.value ∷ values_of name fields) (values_of name fields))
-    go true rest = (h.0.of_value, rest)
-    go false rest = rest
-
-further_bytes : (values : List (List ℕ)) → AreValues values → AllIn is_value_byte (further_values values)
-further_bytes [] h = tt
-further_bytes (value ∷ values) h = (refl, (refl, in_append is_value_byte value (further_values values) h.0.bytes (further_bytes values h.1)))
-
-joined_begins : (value : List ℕ) (values : List (List ℕ)) → ¬ (BeginsIn is_space value) → ¬ (BeginsIn is_space (value ++ further_values values))
-joined_begins [] [] h = λ k. k
-joined_begins [] (more ∷ values) h = λ k. clash k
-joined_begins (b ∷ bs) values h = h
-
--- no value that ends with a space
-abbrev pub EndsPlain : Option (List ℕ) → Type 0
-EndsPlain None = Unit {0}
-EndsPlain (Some value) = ¬ (EndsInSpace value)
-
-joined_valid : (values : List (List ℕ)) → AreValues values → EndsPlain (joined_values values) → HasValueLine (joined_values values)
-joined_valid [] h end = tt
-joined_valid (value ∷ values) h end = record {
-  bytes = in_append is_value_byte value (further_values values) h.0.bytes (further_bytes values h.1);
-  begin = joined_begins value values h.0.begin;
-  end = end;
-}
-
-pub response_valid : (text : List ℕ) (request status age : ℕ) (altsvc : Option (List ℕ)) → SpellsResponse text request status age altsvc → EndsPlain altsvc → HasResponseLine request status age altsvc
-response_valid text request status age altsvc s end = record {
-  request_within = s.of_request.within;
-  final = s.of_status.final;
-  status_within = s.of_status.number.within;
-  not_misdirected = s.of_status.not_misdirected;
-  age_within = subst (λ n. n ≤ greatest_delta_seconds) (sym s.of_age) (age_within s.fields);
-  of_altsvc = subst HasValueLine (sym s.of_altsvc) (joined_valid (values_of (codes "alt-svc") s.fields) (are_values (codes "alt-svc") s.field_texts s.fields s.of_fields) (subst EndsPlain s.of_altsvc end));
 }

@@ -11,16 +11,7 @@ use Rattle.origin_values.specs.declared.proto.Proto.{Proto}
 use Rattle.origin_values.specs.declared.proto.Proto.TheVariants.{H2, H3, Http11, Other}
 use Rattle.coalescing.specs.NamesReading.{read_names}
 use Rattle.coalescing.specs.declared.cert_name.CertName.{CertName}
-
--- the greatest moment or number of a request, the greatest number of an attempt or a connection, and the greatest port
-abbrev pub most_short : ℕ
-most_short = 4294967295
-
-abbrev pub most_long : ℕ
-most_long = 18446744073709551615
-
-abbrev pub most_port : ℕ
-most_port = 65535
+use Rattle.event_lines.specs.Limits.{most_port, most_status}
 
 -- digits, at least one, and no zero before others
 abbrev pub is_number : List ℕ → Bool
@@ -40,10 +31,6 @@ unless_zero n = if nat_lt 0 n then Some n else None
 
 abbrev pub port_of : List ℕ → Option ℕ
 port_of text = option_and_then unless_zero (number_of most_port text)
-
--- the greatest status
-abbrev pub most_status : ℕ
-most_status = 599
 
 -- a status of a final response (RFC 9110 15). A 421 (RFC 9110 15.5.20) isn't read yet.
 abbrev pub final_status : ℕ → Option ℕ

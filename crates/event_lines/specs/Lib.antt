@@ -1,6 +1,7 @@
 pub mod ActionTexts
 pub mod EventTexts
 pub mod Parts
+pub mod Limits
 pub mod Fields
 pub mod ResponseGrammar
 pub mod ResponseReading
@@ -8,4 +9,5 @@ pub mod LineReading
 pub mod Reads
 pub mod LineGrammar
 pub mod LineRefusals
+pub mod Valid
 pub mod HaveLines

@@ -11,8 +11,8 @@ use Rattle.coalescing.specs.NamesGrammar.{SpellsNames}
 use Rattle.coalescing.specs.declared.cert_name.CertName.{CertName}
 use Rattle.route_events.specs.declared.fact.Fact.TheVariants.{Request, Opened, Failed, Closed, Response, Network, Tick}
 use Rattle.event_lines.specs.EventTexts.{proto_text}
-use Rattle.event_lines.specs.Fields.{most_short, most_long, most_port, most_status}
-use Rattle.event_lines.specs.ResponseGrammar.{Field, SpellFields, tabbed, most_fields, age_of, altsvc_of}
+use Rattle.event_lines.specs.Limits.{most_short, most_long, most_port, most_status}
+use Rattle.event_lines.specs.ResponseGrammar.{Field, SpellFields, tabbed, most_fields, HaveAge, altsvc_of}
 use Rattle.event_lines.specs.declared.event.Event.{Event}
 use Rattle.event_lines.specs.declared.event.Event.TheVariants.{Client, Skip}
 
@@ -101,7 +101,7 @@ pub record SpellsResponse (text : List ℕ) (request status age : ℕ) (altsvc :
   pub of_status : SpellsStatus status_text status
   pub of_fields : SpellFields field_texts fields
   pub within : length field_texts ≤ most_fields
-  pub of_age : age ≡ age_of fields
+  pub of_age : HaveAge fields age
   pub of_altsvc : altsvc ≡ altsvc_of fields
 
 -- what follows the moment: a space, the kind, and the kind's fields

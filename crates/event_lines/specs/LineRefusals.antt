@@ -7,7 +7,7 @@ use Rattle.origin_values.specs.declared.origin.Origin.{Origin}
 use Rattle.origin_values.specs.declared.proto.Proto.{Proto}
 use Rattle.coalescing.specs.NamesGrammar.{SpellsNames}
 use Rattle.coalescing.specs.declared.cert_name.CertName.{CertName}
-use Rattle.event_lines.specs.Fields.{most_short, most_long}
+use Rattle.event_lines.specs.Limits.{most_short, most_long}
 use Rattle.event_lines.specs.LineGrammar.{SpellsNumber, SpellsPort, SpellsStatus, SpellsProto, NoSpace, IsSkipped, SpellsLine}
 use Rattle.event_lines.specs.ResponseGrammar.{Field, is_field_byte, is_word_byte, SpellsField, SpellFields, tabbed, most_fields}
 use Rattle.field_text.specs.Runs.{AllIn, BeginsIn}

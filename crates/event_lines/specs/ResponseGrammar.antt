@@ -1,9 +1,9 @@
 -- The fields of a response in a line, each behind a tab, by how they split, and what they say together (RFC 9110 5).
-use Rattle.std.specs.Prelude.{◌≡◌, ℕ, Bool, not, ◌&&◌, nat_eq, List, [], ◌∷◌, ◌++◌, codes, Option, Some, None, unwrap_or, if◌then◌else◌}
+use Rattle.std.specs.Prelude.{◌≡◌, ◌⊎◌, ℕ, Bool, not, ◌&&◌, nat_eq, List, [], ◌∷◌, ◌++◌, codes, Option, Some, None, if◌then◌else◌}
 use Rattle.std.specs.Cmp.Lexicographic.{pointwise}
 use Rattle.alt_base.specs.Classes.{in_ranges}
 use Rattle.field_text.specs.Runs.{AllIn, BeginsIn}
-use Rattle.field_text.specs.DeltaReading.{read_delta_seconds}
+use Rattle.field_text.specs.DeltaGrammar.{SpellsDelta, IsNoDelta}
 use Rattle.http_header.specs.Token.{lowercase}
 use Rattle.http_header.specs.FieldName.{IsFieldName}
 use Rattle.event_lines.specs.Parts.{is_space}
@@ -78,15 +78,6 @@ abbrev pub values_of : List ℕ → List Field → List (List ℕ)
 values_of name [] = []
 values_of name (field ∷ fields) = if is_named name field then field.value ∷ values_of name fields else values_of name fields
 
--- the seconds that a value tells (RFC 9111 1.2.2), 0 where it is no number of seconds
-abbrev pub seconds_of : List ℕ → ℕ
-seconds_of value = unwrap_or (read_delta_seconds value) 0
-
--- those of the first value
-abbrev pub first_seconds : List (List ℕ) → Option ℕ
-first_seconds [] = None
-first_seconds (value ∷ values) = Some (seconds_of value)
-
 -- values behind another one, each behind a comma and a space
 abbrev pub further_values : List (List ℕ) → List ℕ
 further_values [] = []
@@ -97,9 +88,19 @@ abbrev pub joined_values : List (List ℕ) → Option (List ℕ)
 joined_values [] = None
 joined_values (value ∷ values) = Some (value ++ further_values values)
 
--- the age of a response: that of its first Age field (RFC 9111 5.1), 0 where there is none
-abbrev pub age_of : List Field → ℕ
-age_of fields = unwrap_or (first_seconds (values_of (codes "age") fields)) 0
+-- a number of seconds (RFC 9111 1.2.2) tells itself, the largest one where it is larger; a value that is none is ignored
+-- (RFC 9111 5.1), so that the age is 0
+abbrev pub TellsAge : List ℕ → ℕ → Type 0
+TellsAge value age = SpellsDelta value age ⊎ (IsNoDelta value × (age ≡ 0))
+
+-- of several values the first counts (RFC 9111 5.1), and where there is none the age is 0
+abbrev pub TellAge : List (List ℕ) → ℕ → Type 0
+TellAge [] age = age ≡ 0
+TellAge (value ∷ values) age = TellsAge value age
+
+-- the age of a response, by its Age fields
+abbrev pub HaveAge : List Field → ℕ → Type 0
+HaveAge fields age = TellAge (values_of (codes "age") fields) age
 
 -- the value of its Alt-Svc fields (RFC 7838 3), if there are any
 abbrev pub altsvc_of : List Field → Option (List ℕ)

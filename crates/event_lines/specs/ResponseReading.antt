@@ -3,11 +3,12 @@ use Rattle.std.specs.Prelude.{ℕ, ◌+◌, Bool, not, ◌&&◌, nat_eq, nat_lt,
 use Rattle.std.specs.List.{list_all}
 use Rattle.alt_base.specs.declared.refusal.At.{At}
 use Rattle.field_text.specs.Runs.{run_of, after_run}
+use Rattle.field_text.specs.DeltaReading.{read_delta_seconds}
 use Rattle.http_header.specs.Token.{lowercase}
 use Rattle.http_header.specs.FieldName.{is_field_name}
 use Rattle.event_lines.specs.Fields.{status_of}
 use Rattle.event_lines.specs.Parts.{Part, is_space, refused, Reading, ◌>>=◌, value_or}
-use Rattle.event_lines.specs.ResponseGrammar.{Field, is_value_byte, is_tab, is_word_byte, most_fields, is_named, values_of, seconds_of, first_seconds, joined_values}
+use Rattle.event_lines.specs.ResponseGrammar.{Field, is_value_byte, is_tab, is_word_byte, most_fields, is_named, values_of, joined_values}
 use Rattle.event_lines.specs.declared.response.Reply.{Reply}
 use Rattle.event_lines.specs.declared.refusal.LineRefusal.{LineRefusal}
 use Rattle.event_lines.specs.declared.refusal.LineRefusal.TheVariants.{BadField}
@@ -84,6 +85,19 @@ fields_from count place [] = Ok []
 fields_from count place (text ∷ texts) =
     value_or BadField place (if nat_lt count most_fields then field_of text else None) >>= λ field.
     fields_from (count + 1) (place + length text + 1) texts >>= λ fields. Ok (field ∷ fields)
+
+-- the seconds that are read of a value, 0 where it is no number of seconds
+abbrev pub seconds_of : List ℕ → ℕ
+seconds_of value = unwrap_or (read_delta_seconds value) 0
+
+-- those of the first value
+abbrev pub first_seconds : List (List ℕ) → Option ℕ
+first_seconds [] = None
+first_seconds (value ∷ values) = Some (seconds_of value)
+
+-- those of the first Age field, 0 where there is none
+abbrev pub age_of : List Field → ℕ
+age_of fields = unwrap_or (first_seconds (values_of (codes "age") fields)) 0
 
 -- what fields say
 abbrev pub reply_of : List Field → Reply

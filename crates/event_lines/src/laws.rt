@@ -1,6 +1,7 @@
 ghost use Rattle.std.specs.Prelude.{◌≡◌, ℕ, List};
 ghost use Rattle.event_lines.specs.EventTexts.{event_text};
-ghost use Rattle.event_lines.specs.HaveLines.{HasLine, HasNoLastSpace};
+ghost use Rattle.event_lines.specs.HaveLines.{HasLine};
+ghost use Rattle.event_lines.specs.Valid.{IsEvent};
 ghost use Rattle.event_lines.specs.LineGrammar.{SpellsLine};
 ghost use Rattle.event_lines.specs.LineRefusals.{LineRefusedAt, OneLine};
 ghost use Rattle.event_lines.specs.LineReading.{line_reading};
@@ -23,10 +24,14 @@ pub fn one_line()
     ensures { (line : List ℕ) → OneLine line }
 {}
 
-/// The line that an event is written as says it, and is read back as it; and each event that a line says has a line, but
-/// for a response whose value of Alt-Svc is joined from several fields and ends with a space.
+/// What a line says is in the bounds that its kind sets.
+pub fn spelled_events_are_valid()
+    ensures { (line : List ℕ) (now : ℕ) (event : Event) → SpellsLine line now event → IsEvent now event }
+{}
+
+/// The line that an event is written as says it, and is read back as it: each event that a line may say, but for a
+/// response whose value of Alt-Svc is joined from several fields and ends with a space.
 pub fn written_events_are_read_back()
     ensures spelled { (now : ℕ) (event : Event) → HasLine now event → SpellsLine (event_text now event) now event }
     ensures back { (now : ℕ) (event : Event) → HasLine now event → line_reading (event_text now event) ≡ Ok (now, event) }
-    ensures valid { (line : List ℕ) (now : ℕ) (event : Event) → SpellsLine line now event → HasNoLastSpace event → HasLine now event }
 {}

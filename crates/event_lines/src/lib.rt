@@ -23,6 +23,6 @@ mod tests;
 pub use action_line::write_action;
 pub use event::Event;
 pub use event_line::write_event;
-pub use laws::{lines_are_read, one_line, written_events_are_read_back};
+pub use laws::{lines_are_read, one_line, spelled_events_are_valid, written_events_are_read_back};
 pub use reading::read_line;
 pub use refusal::LineRefusal;

@@ -1,6 +1,7 @@
 ghost use Rattle.std.specs.Prelude.{◌≡◌, ◌≤◌, ◌<◌, ◌^◌, length};
 ghost use Rattle.event_lines.specs.Parts.{before_space, first_word, behind_word, next_word, field};
-ghost use Rattle.event_lines.specs.Fields.{most_short, most_long, number_of, port_of, proto_of, origin_of, names_of};
+ghost use Rattle.event_lines.specs.Fields.{number_of, port_of, proto_of, origin_of, names_of};
+ghost use Rattle.event_lines.specs.Limits.{most_short, most_long};
 ghost use Rattle.event_lines.specs.LineReading.{moment_reading, end_reading};
 ghost use Rattle.event_lines.specs.Reads.{Reads, MayRead};
 ghost use Rattle.event_lines.specs.ResponseGrammar.{is_word_byte};

@@ -1,6 +1,7 @@
-ghost use Rattle.std.specs.Prelude.{◌≡◌, ◌≤◌, length};
+ghost use Rattle.std.specs.Prelude.{◌≡◌, ◌≤◌, length, IfOk};
 ghost use Rattle.event_lines.specs.LineReading.{is_skipped, line_reading};
 ghost use Rattle.event_lines.specs.Reads.{IsRead};
+ghost use Rattle.event_lines.specs.Valid.{IsEvent};
 
 use crate::kinds::read_kind;
 use crate::line_reader::LineReader;
@@ -33,6 +34,7 @@ use std::alloc::Global;
 pub fn read_line(alloc: Global, line: &[u8]) -> Result<(Moment, Event), Refused<LineRefusal>>
     requires { length line.now ≤ 65536 }
     ensures reading { IsRead result (line_reading line.now) }
+    ensures valid { IfOk result (λ read. IsEvent read.0.0 read.1) }
 {
     if is_skipped(line) {
         return Ok((Moment(0), Event::Skip));

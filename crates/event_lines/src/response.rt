@@ -1,8 +1,8 @@
 ghost use Rattle.std.specs.Prelude.{◌≡◌, ◌≤◌, ◌<◌, ◌+◌, ◌^◌, length, None, IfOk, OnOk};
 ghost use Rattle.field_text.specs.Runs.{run_of};
 ghost use Rattle.event_lines.specs.Reads.{MayGive};
-ghost use Rattle.event_lines.specs.ResponseGrammar.{is_field_byte, seconds_of};
-ghost use Rattle.event_lines.specs.ResponseReading.{age_with, joined, altsvc_with, with_field, fields_reading};
+ghost use Rattle.event_lines.specs.ResponseGrammar.{is_field_byte};
+ghost use Rattle.event_lines.specs.ResponseReading.{seconds_of, age_with, joined, altsvc_with, with_field, fields_reading};
 
 use crate::LineRefusal;
 use crate::line_reader::bad_field;

@@ -1,0 +1,16 @@
+-- The greatest numbers that a line may have.
+use Rattle.std.specs.Prelude.{ℕ}
+
+-- of a moment, and of a request's number
+abbrev pub most_short : ℕ
+most_short = 4294967295
+
+-- of an attempt's or a connection's number
+abbrev pub most_long : ℕ
+most_long = 18446744073709551615
+
+abbrev pub most_port : ℕ
+most_port = 65535
+
+abbrev pub most_status : ℕ
+most_status = 599

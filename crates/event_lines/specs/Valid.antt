@@ -1,0 +1,54 @@
+-- The moments and events that lines say.
+use Rattle.std.specs.Prelude.{◌≡◌, ◌≢◌, ℕ, ◌≤◌, List, Option, Some, None}
+use Rattle.origin_values.specs.Valid.{IsAddr, IsOrigin}
+use Rattle.origin_values.specs.declared.address.Addr.{Addr}
+use Rattle.coalescing.specs.NamesWritten.{HaveText}
+use Rattle.coalescing.specs.declared.cert_name.CertName.{CertName}
+use Rattle.field_text.specs.DeltaGrammar.{greatest_delta_seconds}
+use Rattle.field_text.specs.Runs.{AllIn, BeginsIn}
+use Rattle.route_events.specs.declared.fact.Fact.{Fact}
+use Rattle.route_events.specs.declared.fact.Fact.TheVariants.{Request, Opened, Failed, Closed, Response, Network, Tick}
+use Rattle.event_lines.specs.Limits.{most_short, most_long, most_port, most_status}
+use Rattle.event_lines.specs.Parts.{is_space}
+use Rattle.event_lines.specs.ResponseGrammar.{is_value_byte}
+use Rattle.event_lines.specs.declared.event.Event.{Event}
+use Rattle.event_lines.specs.declared.event.Event.TheVariants.{Client, Skip}
+
+pub record IsOpened (attempt : ℕ) (addr : Addr) (port : ℕ) (names : List CertName) : Type 0 where
+  pub attempt_within : attempt ≤ most_long
+  pub of_addr : IsAddr addr
+  pub some_port : 1 ≤ port
+  pub port_within : port ≤ most_port
+  pub of_names : HaveText names
+
+-- the values of one field or of several, joined: bytes of a value, of which the first is no space. The last may be one,
+-- where the last of several values is empty.
+pub record IsJoined (value : List ℕ) : Type 0 where
+  pub bytes : AllIn is_value_byte value
+  pub begin : ¬ (BeginsIn is_space value)
+
+abbrev pub IsOptional : Option (List ℕ) → Type 0
+IsOptional None = Unit {0}
+IsOptional (Some value) = IsJoined value
+
+pub record IsResponse (request status age : ℕ) (altsvc : Option (List ℕ)) : Type 0 where
+  pub request_within : request ≤ most_short
+  pub final : 200 ≤ status
+  pub status_within : status ≤ most_status
+  pub not_misdirected : status ≢ 421
+  pub age_within : age ≤ greatest_delta_seconds
+  pub of_altsvc : IsOptional altsvc
+
+abbrev pub IsFact : Fact → Type 0
+IsFact (Request number origin) = (number ≤ most_short) × IsOrigin origin
+IsFact (Opened attempt proto addr port names) = IsOpened attempt addr port names
+IsFact (Failed attempt) = attempt ≤ most_long
+IsFact (Closed conn) = conn ≤ most_long
+IsFact (Response request status age altsvc) = IsResponse request status age altsvc
+IsFact Network = Unit {0}
+IsFact Tick = Unit {0}
+
+-- a skipped line stands at the moment 0
+abbrev pub IsEvent : ℕ → Event → Type 0
+IsEvent now (Client fact) = (now ≤ most_short) × IsFact fact
+IsEvent now Skip = now ≡ 0
