@@ -9,9 +9,7 @@ use Rattle.altroute_program.specs.Outcome.{Stop, outcome, stop_of, text_of}
 use Rattle.altroute_show.specs.Seen.{Seen, AnsweredEnd}
 use Rattle.altroute_program.specs.Ends.{ReplayEnds}
 use Rattle.altroute_program.proofs.Stays.{stays, stop_from}
-
-some_none : {X : Type 0} (x : X) (o : Option X) → o ≡ Some x → o ≡ None → ⊥
-some_none x o a b = let e : Some x ≡ None = sym a ∙ b in cc
+use Rattle.alt_base.proofs.Variants.{some_none}
 
 no_stop : (new : Seen) (input bytes : List ℕ) (left : Option (List ℕ)) (ended : Bool) (why : Stop) → new.left ≡ left → Some input ≡ with_front bytes left → OnTrue ended (AnsweredEnd new) → stop_of (outcome bytes ended) ≡ Some why → stop_of (outcome input true) ≡ None → ⊥
 no_stop new input bytes None ended why is took at_end stop none = cc

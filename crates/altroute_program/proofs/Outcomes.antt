@@ -17,15 +17,12 @@ use Rattle.altroute_program.specs.Texts.{actions_text, refused_line, step_refusa
 use Rattle.altroute_program.specs.Outcome.{Progress, Going, Stopped, AtLongLine, AtLongInput, after_step, after_event, after_reading, act, act_all, start, limited, outcome, text_of}
 use Rattle.altroute_program.specs.Reached.{Reached}
 use Rattle.altroute_program.proofs.Cutting.{cut-push, act_all-append}
-
-and_true : (b : Bool) → (b && true) ≡ b
-and_true true = refl
-and_true false = refl
+use Rattle.std.proofs.Math.Bool.{and-true}
 
 pub outcome_within : (bytes : List ℕ) (ended : Bool) → length bytes ≤ 67108864 → outcome bytes ended ≡ limited (act_all start (lines_of (cut_lines bytes) ended)) (cut_lines bytes).rest (length bytes)
 outcome_within bytes ended within =
     let fits : nat_le (length bytes) 67108864 ≡ true = grind arith in
-    rw (take_all 67108864 bytes within, fits) (ap (λ b. limited (act_all start (lines_of (cut_lines bytes) b)) (cut_lines bytes).rest (length bytes)) (and_true ended))
+    rw (take_all 67108864 bytes within, fits) (ap (λ b. limited (act_all start (lines_of (cut_lines bytes) b)) (cut_lines bytes).rest (length bytes)) (and-true ended))
 
 pub limited_small : (p : Progress) (rest : List ℕ) (n : ℕ) → length rest ≤ 65536 → n ≤ 67108864 → limited p rest n ≡ p
 limited_small (Stopped text why) rest n short small = refl

@@ -7,6 +7,8 @@ use Rattle.altroute_program.specs.Lines.{Cut, cut_on, cut_from, cut_lines, lines
 use Rattle.altroute_program.specs.Outcome.{Progress, Going, Stopped, Stop, AtLongLine, AtLongInput, act, act_all, start, limited, outcome, text_of, stop_of}
 use Rattle.altroute_program.proofs.Cutting.{act_all-append, cut_from-append, cut_more, lines_more}
 use Rattle.altroute_program.proofs.Outcomes.{outcome_within, all_grows, limited_text}
+use Rattle.alt_base.proofs.Numbers.{true_lt, false_lt, lt_true, le_false}
+use Rattle.std.proofs.Math.Bool.{and-false}
 
 stopped_stays : (text : List ℕ) (why : Stop) (ls : List (List ℕ)) → act_all (Stopped text why) ls ≡ Stopped text why
 stopped_stays text why [] = refl
@@ -31,23 +33,11 @@ long_empty : (xs : List ℕ) → 65536 < length xs → is_empty_bytes xs ≡ fal
 long_empty [] h = absurd (omega arith)
 long_empty (x ∷ xs) h = refl
 
-test_lt : (a b : ℕ) → nat_lt a b ≡ true → a < b
-test_lt a b h = grind arith
-
-test_le : (a b : ℕ) → nat_lt a b ≡ false → b ≤ a
-test_le a b h = grind arith
-
-lt_test : (a b : ℕ) → a < b → nat_lt a b ≡ true
-lt_test a b h = grind arith
-
-gt_test : (a b : ℕ) → b < a → nat_le a b ≡ false
-gt_test a b h = grind arith
-
 after_byte : (b n k : ℕ) (bs text : List ℕ) (c : Cut) (ended : Bool) (j : Journal) → act_all start c.whole ≡ Going text j k → 65536 < length c.rest
     → ((d : Cut) → act_all start d.whole ≡ Going text j k → 65536 < length d.rest → limited (act_all start (lines_of (cut_from d bs) ended)) (cut_from d bs).rest n ≡ Stopped text AtLongLine)
     → (t : Bool) → nat_eq b 10 ≡ t → limited (act_all start (lines_of (cut_from (cut_on c b) bs) ended)) (cut_from (cut_on c b) bs).rest n ≡ Stopped text AtLongLine
 after_byte b n k bs text c ended j going long rec true is =
-    let stop : act_all start (cut_on c b).whole ≡ Stopped text AtLongLine = rw is (act_all-append start c.whole (c.rest ∷ []) ∙ ap (λ p. act p c.rest) going ∙ rw (lt_test 65536 (length c.rest) long) refl) in
+    let stop : act_all start (cut_on c b).whole ≡ Stopped text AtLongLine = rw is (act_all-append start c.whole (c.rest ∷ []) ∙ ap (λ p. act p c.rest) going ∙ rw (lt_true 65536 (length c.rest) long) refl) in
     after_stop (cut_on c b) bs ended text (cut_from (cut_on c b) bs).rest AtLongLine n stop
 after_byte b n k bs text c ended j going long rec false is =
     let same : act_all start (cut_on c b).whole ≡ Going text j k = rw is going in
@@ -56,9 +46,9 @@ after_byte b n k bs text c ended j going long rec false is =
 
 -- a line that is too long already
 after_long : (tail : List ℕ) (c : Cut) (ended : Bool) (text : List ℕ) (j : Journal) (k n : ℕ) → act_all start c.whole ≡ Going text j k → 65536 < length c.rest → limited (act_all start (lines_of (cut_from c tail) ended)) (cut_from c tail).rest n ≡ Stopped text AtLongLine
-after_long [] c false text j k n going long = rw (going, lt_test 65536 (length c.rest) long) refl
+after_long [] c false text j k n going long = rw (going, lt_true 65536 (length c.rest) long) refl
 after_long [] c true text j k n going long =
-    let stop : act (Going text j k) c.rest ≡ Stopped text AtLongLine = rw (lt_test 65536 (length c.rest) long) refl in
+    let stop : act (Going text j k) c.rest ≡ Stopped text AtLongLine = rw (lt_true 65536 (length c.rest) long) refl in
     let all : act_all start (c.whole ++ c.rest ∷ []) ≡ Stopped text AtLongLine = act_all-append start c.whole (c.rest ∷ []) ∙ ap (λ p. act p c.rest) going ∙ stop in
     rw (long_empty c.rest long) (ap (λ p. limited p c.rest n) all)
 after_long (b ∷ bs) c ended text j k n going long = after_byte b n k bs text c ended j going long (λ d g l. after_long bs d ended text j k n g l) (nat_eq b 10) refl
@@ -80,20 +70,16 @@ far_limited : (p : Progress) (rest : List ℕ) (n m : ℕ) → nat_lt 67108864 n
 far_limited (Stopped text why) rest n m a b = refl
 far_limited (Going text j k) rest n m a b = rw (a, b) refl
 
-and_false : (b : Bool) → (b && false) ≡ false
-and_false true = refl
-and_false false = refl
-
 pub outcome_beyond : (bytes more : List ℕ) (ended : Bool) → 67108864 < length bytes → outcome (bytes ++ more) ended ≡ outcome bytes false
 outcome_beyond bytes more ended far =
     let len : length (bytes ++ more) ≡ length bytes + length more = length-append bytes more in
     let farther : 67108864 < length (bytes ++ more) = omega (arith, len, far) in
-    let no : nat_le (length (bytes ++ more)) 67108864 ≡ false = gt_test (length (bytes ++ more)) 67108864 farther in
-    let big : nat_lt 67108864 (length (bytes ++ more)) ≡ true = lt_test 67108864 (length (bytes ++ more)) farther in
-    let yes : nat_lt 67108864 (length bytes) ≡ true = lt_test 67108864 (length bytes) far in
+    let no : nat_le (length (bytes ++ more)) 67108864 ≡ false = le_false (length (bytes ++ more)) 67108864 farther in
+    let big : nat_lt 67108864 (length (bytes ++ more)) ≡ true = lt_true 67108864 (length (bytes ++ more)) farther in
+    let yes : nat_lt 67108864 (length bytes) ≡ true = lt_true 67108864 (length bytes) far in
     let same : take 67108864 (bytes ++ more) ≡ take 67108864 bytes = take-append-le 67108864 bytes more (omega arith) in
     let c = cut_lines (take 67108864 bytes) in
-    let e : outcome (bytes ++ more) ended ≡ limited (act_all start c.whole) c.rest (length (bytes ++ more)) = rw (same, no, and_false ended) refl in
+    let e : outcome (bytes ++ more) ended ≡ limited (act_all start c.whole) c.rest (length (bytes ++ more)) = rw (same, no, and-false ended) refl in
     e ∙ far_limited (act_all start c.whole) c.rest (length (bytes ++ more)) (length bytes) big yes
 
 -- more bytes only add to the text
@@ -113,14 +99,14 @@ pub grows : (bytes more : List ℕ) (ended : Bool) → (extra : List ℕ) × (te
 grows bytes more ended = by_test (nat_lt 67108864 (length bytes)) refl
   where
     by_test : (t : Bool) → nat_lt 67108864 (length bytes) ≡ t → (extra : List ℕ) × (text_of (outcome (bytes ++ more) ended) ≡ text_of (outcome bytes false) ++ extra)
-    by_test true is = ([], ap text_of (outcome_beyond bytes more ended (test_lt 67108864 (length bytes) is)) ∙ sym (append-nil (text_of (outcome bytes false))))
-    by_test false is = within_grows bytes more ended (test_le 67108864 (length bytes) is)
+    by_test true is = ([], ap text_of (outcome_beyond bytes more ended (true_lt 67108864 (length bytes) is)) ∙ sym (append-nil (text_of (outcome bytes false))))
+    by_test false is = within_grows bytes more ended (false_lt 67108864 (length bytes) is)
 
 -- a stop stays
 stop_tests : (bytes more text t : List ℕ) (ended : Bool) (why : Stop) (j : Journal) (k : ℕ) → length bytes ≤ 67108864 → act_all start (cut_lines bytes).whole ≡ Going text j k → (a b : Bool) → nat_lt 65536 (length (cut_lines bytes).rest) ≡ a → nat_lt 67108864 (length bytes) ≡ b → cond a (Stopped text AtLongLine) (cond b (Stopped text AtLongInput) (Going text j k)) ≡ Stopped t why → outcome (bytes ++ more) ended ≡ Stopped t why
 stop_tests bytes more text t ended why j k fits is true b a_is b_is s =
     let past = outcome_past bytes more ended fits in
-    let long : 65536 < length (cut_lines bytes).rest = test_lt 65536 (length (cut_lines bytes).rest) a_is in
+    let long : 65536 < length (cut_lines bytes).rest = true_lt 65536 (length (cut_lines bytes).rest) a_is in
     past.2 ∙ after_long past.0 (cut_lines bytes) past.1 text j k (length (bytes ++ more)) is long ∙ s
 stop_tests bytes more text t ended why j k fits is false true a_is b_is s = absurd (clash b_is fits)
   where
@@ -145,8 +131,8 @@ pub stays : (bytes more t : List ℕ) (ended : Bool) (why : Stop) → outcome by
 stays bytes more t ended why stop = by_test (nat_lt 67108864 (length bytes)) refl
   where
     by_test : (b : Bool) → nat_lt 67108864 (length bytes) ≡ b → outcome (bytes ++ more) ended ≡ Stopped t why
-    by_test true is = outcome_beyond bytes more ended (test_lt 67108864 (length bytes) is) ∙ stop
-    by_test false is = within_stays bytes more t ended why (test_le 67108864 (length bytes) is) stop
+    by_test true is = outcome_beyond bytes more ended (true_lt 67108864 (length bytes) is) ∙ stop
+    by_test false is = within_stays bytes more t ended why (false_lt 67108864 (length bytes) is) stop
 
 -- a stop, whatever its text
 pub stop_from : (bytes : List ℕ) (why : Stop) → stop_of (outcome bytes false) ≡ Some why → outcome bytes false ≡ Stopped (text_of (outcome bytes false)) why

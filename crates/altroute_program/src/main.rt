@@ -53,6 +53,8 @@ mod alternative_tests;
 #[cfg(test)]
 mod frame_tests;
 #[cfg(test)]
+mod lent_table_tests;
+#[cfg(test)]
 mod record_tests;
 #[cfg(test)]
 mod tests;

@@ -1,10 +1,7 @@
-use crate::tests::{bytes_of, shown};
+use crate::tests::{Row, bytes_of, shown};
 use std::alloc::Global;
 use std::process::Abort;
 use std::test::Fail;
-
-/// An input, what is written for it, and the status.
-type Row = (&'static [u8], &'static [u8], u8);
 
 fn hold(rt: &impl Abort, alloc: Global, words: &[&[u8]], rows: &[Row]) -> Result<(), Fail> {
     for (input, written, status) in rows {

@@ -1,5 +1,6 @@
 use super::*;
 use alt_base::{Bytes, Calls, MemorySink, MemorySource, Text};
+use std::process::Abort;
 use std::test::Fail;
 
 pub(crate) fn bytes_of(alloc: Global, bytes: &[u8]) -> Result<Bytes, Fail> {
@@ -57,89 +58,114 @@ pub(crate) fn shown(
     })
 }
 
-#[test]
-fn field_values(rt: HostRuntime) -> Result<(), Fail> {
-    let alloc = rt.alloc();
-    let rows: [(&[u8], &[u8], u8); 6] = [
-        (b"clear\n", b"clear\n", 0),
-        (b"h2=\":443\"", b"h2 - 443 ma 86400 persist 0\n", 0),
-        (b"h2=\":443\", clear", b"clear\n", 0),
-        (b"", b"refused 1 at 0\n", 1),
-        (b"h%32=\":443\"\n", b"refused 3 at 1\n", 1),
-        // Only one newline is dropped.
-        (b"clear\n\n", b"refused 8 at 5\n", 1),
-    ];
+/// An input, what is written for it, and the status.
+pub(crate) type Row = (&'static [u8], &'static [u8], u8);
+
+pub(crate) fn hold_replayed(rt: &impl Abort, alloc: Global, rows: &[Row]) -> Result<(), Fail> {
     for (input, written, status) in rows {
-        let gave = shown(
-            alloc,
-            &[b"show", b"altsvc"],
-            bytes_of(alloc, input)?,
-            &[],
-            &[],
-        )?;
-        assert_eq!(rt; gave.written.as_slice(), written);
-        assert_eq!(rt; gave.status, status);
+        let gave = replayed(alloc, bytes_of(alloc, *input)?, &[], &[])?;
+        assert_eq!(rt; gave.written.as_slice(), *written);
+        assert_eq!(rt; gave.status, *status);
     }
-    assert_eq!(rt;
-        shown(
-            alloc,
-            &[b"show", b"altsvc"],
-            bytes_of(alloc, b"clear")?,
-            &[1],
-            &[]
-        )?
-        .status,
-        3
-    );
-    assert_eq!(rt;
-        shown(
-            alloc,
-            &[b"show", b"altsvc"],
-            bytes_of(alloc, b"clear")?,
-            &[],
-            &[1]
-        )?
-        .status,
-        4
-    );
     Ok(())
 }
 
+// Values of Alt-Svc.
+const VALUES: [Row; 6] = [
+    (b"clear\n", b"clear\n", 0),
+    (b"h2=\":443\"", b"h2 - 443 ma 86400 persist 0\n", 0),
+    (b"h2=\":443\", clear", b"clear\n", 0),
+    (b"", b"refused 1 at 0\n", 1),
+    (b"h%32=\":443\"\n", b"refused 3 at 1\n", 1),
+    // Only one newline is dropped.
+    (b"clear\n\n", b"refused 8 at 5\n", 1),
+];
+
+#[test]
+fn field_values(rt: HostRuntime) -> Result<(), Fail> {
+    let alloc = rt.alloc();
+    let show: [&[u8]; 2] = [b"show", b"altsvc"];
+    for (input, written, status) in VALUES {
+        let gave = shown(alloc, &show, bytes_of(alloc, input)?, &[], &[])?;
+        assert_eq!(rt; gave.written.as_slice(), written);
+        assert_eq!(rt; gave.status, status);
+    }
+    let unread = shown(alloc, &show, bytes_of(alloc, b"clear")?, &[1], &[])?;
+    assert_eq!(rt; unread.status, 3);
+    let unwritten = shown(alloc, &show, bytes_of(alloc, b"clear")?, &[], &[1])?;
+    assert_eq!(rt; unwritten.status, 4);
+    Ok(())
+}
+
+// Requests, and what is refused.
+const HISTORIES: [Row; 8] = [
+    (b"", b"", 0),
+    (
+        b"0 request 1 https://a.example\n",
+        b"open 1 https://a.example direct h2,http/1.1 a.example 443\n",
+        0,
+    ),
+    // The last line may lack its newline, and a skipped line counts.
+    (
+        b"# a note\n\n0 request 1 https://a.example\n0 jump",
+        b"open 1 https://a.example direct h2,http/1.1 a.example 443\nrefused 4 line 2 at 2\n",
+        1,
+    ),
+    (
+        b"0 request 1 https://a.example\n0 request 1 https://b.example\n",
+        b"open 1 https://a.example direct h2,http/1.1 a.example 443\nrefused 2 step 2 last 1\n",
+        1,
+    ),
+    (
+        b"0 request 1 https://a.example\n1 failed 1\n",
+        b"open 1 https://a.example direct h2,http/1.1 a.example 443\nrefuse 1\n",
+        0,
+    ),
+    (b"5 tick\n4 tick\n", b"refused 2 step 1 last 5\n", 1),
+    (b"0 failed 9\n", b"refused 1 step 3\n", 1),
+    (b"0 closed 9", b"refused 1 step 4\n", 1),
+];
+
 #[test]
 fn histories(rt: HostRuntime) -> Result<(), Fail> {
-    let alloc = rt.alloc();
-    let rows: [(&[u8], &[u8], u8); 7] = [
-        (b"", b"", 0),
-        (
-            b"0 request 1 https://a.example\n",
-            b"open 1 https://a.example direct h2,http/1.1 a.example 443\n",
-            0,
-        ),
-        // The last line may lack its newline, and a skipped line counts.
-        (
-            b"# a note\n\n0 request 1 https://a.example\n0 jump",
-            b"open 1 https://a.example direct h2,http/1.1 a.example 443\nrefused 4 line 2 at 2\n",
-            1,
-        ),
-        (
-            b"0 request 1 https://a.example\n0 request 1 https://b.example\n",
-            b"open 1 https://a.example direct h2,http/1.1 a.example 443\nrefused 2 step 2 last 1\n",
-            1,
-        ),
-        (
-            b"0 request 1 https://a.example\n1 failed 1\n",
-            b"open 1 https://a.example direct h2,http/1.1 a.example 443\nrefuse 1\n",
-            0,
-        ),
-        (b"5 tick\n4 tick\n", b"refused 2 step 1 last 5\n", 1),
-        (b"0 closed 9", b"refused 1 step 4\n", 1),
-    ];
-    for (input, output, status) in rows {
-        let gave = replayed(alloc, bytes_of(alloc, input)?, &[], &[])?;
-        assert_eq!(rt; gave.status, status);
-        assert_eq!(rt; gave.written.as_slice(), output);
-    }
-    Ok(())
+    hold_replayed(&rt, rt.alloc(), &HISTORIES)
+}
+
+// Hosts in each form, and a connection that ends.
+const CONNECTIONS: [Row; 5] = [
+    // A request that waits on a connection is lost with it, and another one opens anew.
+    (
+        b"0 request 1 https://a.example\n1 opened 1 h2 192.0.2.1 443 a.example\n2 closed 1\n3 request 2 https://a.example\n",
+        b"open 1 https://a.example direct h2,http/1.1 a.example 443\nsend 1 on 1 stream 1\nlost 1\nopen 2 https://a.example direct h2,http/1.1 a.example 443\n",
+        0,
+    ),
+    // A wildcard stands for one label alone.
+    (
+        b"0 request 1 https://x.a.example\n0 opened 1 h2 192.0.2.1 443 *.example\n",
+        b"open 1 https://x.a.example direct h2,http/1.1 x.a.example 443\nrefuse 1\n",
+        0,
+    ),
+    // An address is covered by a name that is that address.
+    (
+        b"0 request 1 https://192.0.2.1\n0 opened 1 h2 192.0.2.1 443 192.0.2.1\n",
+        b"open 1 https://192.0.2.1 direct h2,http/1.1 192.0.2.1 443\nsend 1 on 1 stream 1\n",
+        0,
+    ),
+    (
+        b"0 request 1 https://b\xc3\xbccher.example:0443\n",
+        b"open 1 https://xn--bcher-kva.example direct h2,http/1.1 xn--bcher-kva.example 443\n",
+        0,
+    ),
+    (
+        b"0 request 1 HTTP://[2001:DB8::1]:8080\n",
+        b"open 1 http://[2001:db8::1]:8080 direct http/1.1 [2001:db8::1] 8080\n",
+        0,
+    ),
+];
+
+#[test]
+fn hosts_and_connections(rt: HostRuntime) -> Result<(), Fail> {
+    hold_replayed(&rt, rt.alloc(), &CONNECTIONS)
 }
 
 #[test]
