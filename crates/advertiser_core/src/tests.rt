@@ -3,8 +3,8 @@ ghost use Rattle.origin_values.specs.Valid.{IsOrigin};
 ghost use Rattle.altsvc_grammar.specs.Valid.{AreListed};
 
 use crate::*;
-use alt_base::{Bytes, NoMemory};
-use altsvc_grammar::{Alt, AltKey, Alts};
+use alt_base::Bytes;
+use altsvc_grammar::{AltSvc, Alts, parse, spelled_values_are_valid};
 use h2_framing::write_frame;
 use origin_values::Origin;
 use std::alloc::Global;
@@ -115,18 +115,14 @@ fn announced_in_order(rt: HostRuntime) -> Result<(), Fail> {
 }
 
 // The one alternative h2=":8443".
-fn alternatives(alloc: Global) -> Result<Alts, NoMemory> {
-    let mut alts = Alts::new(alloc);
-    alts.push(Alt {
-        key: AltKey {
-            proto: Bytes::from_vec(b"h2".to_vec(alloc)?),
-            host: None,
-            port: 8443,
-        },
-        ma: 86_400,
-        persist: false,
-    })?;
-    Ok(alts)
+fn alternatives(alloc: Global) -> Option<Alts>
+    ensures { IfSome result (λ alts. AreListed alts) }
+{
+    spelled_values_are_valid();
+    match parse(alloc, b"h2=\":8443\"") {
+        Ok(AltSvc::List(alts)) => Some(alts),
+        _ => None,
+    }
 }
 
 #[test]
@@ -135,7 +131,7 @@ fn offered_and_withdrawn(rt: HostRuntime) -> Result<(), Fail> {
     let mut server = after(alloc, b"+a")?;
     let a = short(alloc, b'a').ok_or("no origin")?;
     let b = short(alloc, b'b').ok_or("no origin")?;
-    let alts = alternatives(alloc)?;
+    let alts = alternatives(alloc).ok_or("no alternatives")?;
     assert_eq!(rt; server.offer(&b, &alts), Err(ServerFault::NotServed));
     assert_eq!(rt; server.withdraw(&b), Err(ServerFault::NotServed));
     assert_eq!(rt; server.unserve(&b), Err(NotServed));
