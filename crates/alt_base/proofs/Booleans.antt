@@ -30,3 +30,9 @@ or_swap true true c = refl
 or_swap true false c = refl
 or_swap false true c = refl
 or_swap false false c = refl
+
+-- two tests that pass together are one
+pub one_truth : (a b : Bool) → (a ≡ true → b ≡ true) → (b ≡ true → a ≡ true) → a ≡ b
+one_truth true b to from = sym (to refl)
+one_truth false true to from = from refl
+one_truth false false to from = refl

@@ -1,8 +1,9 @@
 -- Lists, and what loops make of them, one more item at a time.
-use Rattle.std.proofs.Common.{◌≡◌, ◌≢◌, ℕ, ◌+◌, ◌<◌, zero, suc, true, nat_eq, List, [], ◌∷◌, ◌++◌, map, take, drop, set, get_or, length, refl, ap, sym, ◌∙◌, subst, arith, add-one}
+use Rattle.std.proofs.Common.{◌≡◌, ◌≢◌, ℕ, ◌+◌, ◌<◌, zero, suc, Bool, true, false, cond, nat_eq, List, [], ◌∷◌, ◌++◌, map, filter, take, drop, set, get_or, length, refl, ap, sym, ◌∙◌, subst, arith, add-one}
 use Rattle.std.proofs.Math.Seq.{drop-cons}
 use Rattle.std.specs.Cmp.Lexicographic.{pointwise, same_text}
 use Rattle.alt_base.proofs.Numbers.{eq_self}
+use Rattle.alt_base.proofs.Booleans.{contradicts}
 
 pub cons_not_nil : {X : Type 0} (x : X) (xs : List X) → x ∷ xs ≢ []
 cons_not_nil x xs e = cc
@@ -25,7 +26,7 @@ next_item items count item h = rw (add-one, drop-cons items count item h.0) (ap 
 
 -- one more item is mapped in its place
 
-set_suc : {X : Type 0} (f : X → X) (xs : List X) (i : ℕ) (y d : X) → i < length xs → y ≡ f (get_or xs i d) → set (map f (take i xs) ++ drop i xs) i y ≡ map f (take (suc i) xs) ++ drop (suc i) xs
+pub set_suc : {X : Type 0} (f : X → X) (xs : List X) (i : ℕ) (y d : X) → i < length xs → y ≡ f (get_or xs i d) → set (map f (take i xs) ++ drop i xs) i y ≡ map f (take (suc i) xs) ++ drop (suc i) xs
 set_suc f [] i y d within is = absurd (omega arith)
 set_suc f (x ∷ xs) zero y d within is = ap (λ z. z ∷ xs) is
 set_suc f (x ∷ xs) (suc i) y d within is = ap (λ zs. f x ∷ zs) (set_suc f xs i y d (omega arith) is)
@@ -38,3 +39,14 @@ at_place f (x ∷ xs) (suc i) d within = at_place f xs i d (omega arith)
 pub set_mapped : {X : Type 0} (f : X → X) (xs ys : List X) (i : ℕ) (y d : X) → i < length xs → ys ≡ map f (take i xs) ++ drop i xs → y ≡ f (get_or ys i d) → set ys i y ≡ map f (take (i + 1) xs) ++ drop (i + 1) xs
 set_mapped f xs ys i y d within are is =
     rw add-one (ap (λ zs. set zs i y) are ∙ set_suc f xs i y d within (is ∙ ap (λ zs. f (get_or zs i d)) are ∙ ap f (at_place f xs i d within)))
+
+-- a test behind one that passes wherever it does
+pub filter_within : {X : Type 0} (p q : X → Bool) (xs : List X) → ((x : X) → p x ≡ true → q x ≡ true) → filter p (filter q xs) ≡ filter p xs
+filter_within p q [] h = refl
+filter_within {X} p q (x ∷ xs) h = by_tests (p x) (q x) refl refl (filter_within p q xs h)
+  where
+    by_tests : (b c : Bool) → p x ≡ b → q x ≡ c → filter p (filter q xs) ≡ filter p xs → filter p (cond c (x ∷ filter q xs) (filter q xs)) ≡ cond b (x ∷ filter p xs) (filter p xs)
+    by_tests true true px qx rest = rw px (ap (λ zs. x ∷ zs) rest)
+    by_tests false true px qx rest = rw px rest
+    by_tests true false px qx rest = contradicts (q x) (h x px) qx
+    by_tests false false px qx rest = rest

@@ -23,3 +23,7 @@ bytes_front (b ∷ bs) ys h = (h.0, bytes_front bs ys h.1)
 pub bytes_back : (xs ys : List ℕ) → AreBytes (xs ++ ys) → AreBytes ys
 bytes_back [] ys h = h
 bytes_back (b ∷ bs) ys h = bytes_back bs ys h.1
+
+pub bytes_both : (xs ys : List ℕ) → AreBytes xs → AreBytes ys → AreBytes (xs ++ ys)
+bytes_both [] ys h k = k
+bytes_both (b ∷ bs) ys h k = (h.0, bytes_both bs ys h.1 k)

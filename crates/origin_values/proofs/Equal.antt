@@ -1,7 +1,8 @@
--- What the tests of schemes, hosts and origins say: a value passes with itself, and two that pass are one.
-use Rattle.std.proofs.Common.{◌≡◌, ℕ, true, ◌&&◌, nat_eq, refl, ap}
+-- What the tests of schemes, hosts and origins say: a value passes with itself, two that pass are one, and the code's
+-- comparisons are these tests.
+use Rattle.std.proofs.Common.{◌≡◌, ◌↔◌, ℕ, true, ◌&&◌, nat_eq, refl, ap, sym, subst}
 use Rattle.alt_base.proofs.Numbers.{eq_self, true_eq}
-use Rattle.alt_base.proofs.Booleans.{first_of_both, second_of_both}
+use Rattle.alt_base.proofs.Booleans.{first_of_both, second_of_both, one_truth}
 use Rattle.alt_base.proofs.Lists.{text_self, true_text}
 use Rattle.origin_values.specs.declared.scheme.Scheme.{Scheme}
 use Rattle.origin_values.specs.declared.scheme.Scheme.TheVariants.{Http, Https}
@@ -9,6 +10,9 @@ use Rattle.origin_values.specs.declared.host.Host.{Host}
 use Rattle.origin_values.specs.declared.host.Host.TheVariants.{Name, V4, V6}
 use Rattle.origin_values.specs.declared.origin.Origin.{Origin}
 use Rattle.origin_values.specs.Equality.{scheme_eq, host_eq, origin_eq}
+use Rattle.origin_values.specs.contracts.scheme.SchemePartialEq.TheImpl as schemes
+use Rattle.origin_values.specs.contracts.host.HostPartialEq.TheImpl as hosts
+use Rattle.origin_values.specs.contracts.origin.OriginPartialEq.TheImpl as origins
 
 pub scheme_self : (s : Scheme) → scheme_eq s s ≡ true
 scheme_self Http = refl
@@ -49,3 +53,35 @@ true_origin a b h =
   where
     of_parts : (s t : Scheme) (h k : Host) (m n : ℕ) → s ≡ t → h ≡ k → m ≡ n → (let x : Origin = record { scheme = s; host = h; port = m } in let y : Origin = record { scheme = t; host = k; port = n } in x ≡ y)
     of_parts s t h k m n e f g = rw (e, f, g) refl
+
+pub one_origin : (a b : Origin) → (origin_eq a b ≡ true) ↔ (a ≡ b)
+one_origin a b = (true_origin a b, λ e. subst (λ x. origin_eq a x ≡ true) e (origin_self a))
+
+-- the test may be turned
+pub turned_origin : (a b : Origin) → origin_eq a b ≡ origin_eq b a
+turned_origin a b = one_truth (origin_eq a b) (origin_eq b a) (turned a b) (turned b a)
+  where
+    turned : (a b : Origin) → origin_eq a b ≡ true → origin_eq b a ≡ true
+    turned a b h = (one_origin b a).1 (sym (true_origin a b h))
+
+-- the code's comparisons
+
+pub same_scheme : (a b : Scheme) → (schemes.eq-value).it a b ≡ scheme_eq a b
+same_scheme Http Http = refl
+same_scheme Http Https = refl
+same_scheme Https Http = refl
+same_scheme Https Https = refl
+
+pub same_host : (a b : Host) → (hosts.eq-value).it a b ≡ host_eq a b
+same_host (Name a) (Name b) = refl
+same_host (Name a) (V4 b) = refl
+same_host (Name a) (V6 b) = refl
+same_host (V4 a) (Name b) = refl
+same_host (V4 a) (V4 b) = refl
+same_host (V4 a) (V6 b) = refl
+same_host (V6 a) (Name b) = refl
+same_host (V6 a) (V4 b) = refl
+same_host (V6 a) (V6 b) = refl
+
+pub same_origin : (origins.eq-value).it ≡ origin_eq
+same_origin = λ i a b. same_scheme a.scheme b.scheme i && (same_host a.host b.host i && nat_eq a.port b.port)

@@ -9,6 +9,7 @@ pub mod Lowercase
 pub mod Names
 pub mod OriginTexts
 pub mod Origins
+pub mod PortDigits
 pub mod PortTexts
 pub mod Ports
 pub mod Runs

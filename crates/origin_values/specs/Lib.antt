@@ -9,3 +9,5 @@ pub mod OriginReading
 pub mod AsciiOrigin
 pub mod AsciiReading
 pub mod ZeroRuns
+pub mod PortGrammar
+pub mod PortReading

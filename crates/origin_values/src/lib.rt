@@ -23,7 +23,9 @@ pub use laws::{
     written_addresses_are_read_back, written_hosts_are_read_back, written_origins_are_read_back,
 };
 pub use origin::{Origin, same_origin};
+pub use port::{digits_before, read_port_digits};
 pub use proto::{Proto, same_proto};
 pub use protos::Protos;
 pub use refusal::{AsciiFault, HostRefusal, OriginRefusal};
+pub use run::bracket_end;
 pub use scheme::{Scheme, default_port};

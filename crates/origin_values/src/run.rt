@@ -31,8 +31,9 @@ pub(crate) fn host_end(text: &[u8]) -> Option<usize>
     }
 }
 
-// The number of bytes up to and with the first closing bracket.
-fn bracket_end(text: &[u8]) -> Option<usize>
+/// The number of bytes up to and with the first `]`, which closes the brackets of an address (RFC 3986 3.2.2); None where
+/// there is none.
+pub fn bracket_end(text: &[u8]) -> Option<usize>
     ensures value { result ≡ bracket_end text.now }
     ensures within { IfSome result (λ end. end ≤ length text.now) }
 {

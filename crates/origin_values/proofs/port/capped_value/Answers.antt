@@ -1,7 +1,7 @@
 use Rattle.std.proofs.Common.{ap, ◌∙◌, ◌+◌, ◌*◌, min}
 use Rattle.std.specs.Str.Parse.{digits_value}
 use Rattle.origin_values.proofs.Ports.{next_digit}
-use Rattle.origin_values.proofs.port.port_of.Goals as goal
+use Rattle.origin_values.proofs.port.capped_value.Goals as goal
 
 pub loop-b-preserved : goal.loop-b-preserved
 loop-b-preserved c =
