@@ -1,56 +1,41 @@
 -- The reading of an authority against its grammar.
-use Rattle.std.proofs.Common.{◌≡◌, ◌⊎◌, ℕ, ◌+◌, ◌<◌, Bool, true, false, cond, ◌&&◌, nat_eq, nat_lt, nat_le, List, [], ◌∷◌, ◌++◌, length, Option, Some, None, option_map, refl, ap, sym, ◌∙◌, arith, inl, inr}
+use Rattle.std.proofs.Common.{◌≡◌, ◌⊎◌, ℕ, ◌+◌, ◌<◌, Bool, true, false, cond, nat_eq, nat_lt, List, [], ◌∷◌, ◌++◌, length, Option, Some, None, option_map, refl, ap, sym, ◌∙◌, subst, arith, inl, inr}
 use Rattle.std.proofs.Math.Seq.{take-append_seam, drop-append-add}
 use Rattle.std.proofs.lemmas.Bool.Decides.{nat_tests}
 use Rattle.std.proofs.lemmas.Str.Parse.{digit_from_value}
-use Rattle.std.specs.List.{list_all}
 use Rattle.std.specs.Int.{IsInRange}
-use Rattle.std.specs.Char.{is_ascii_digit, digit_value}
-use Rattle.std.specs.Str.Parse.{AllDigits, digits_value}
-use Rattle.alt_base.proofs.Digits.{all_digits, digits_all}
-use Rattle.alt_base.proofs.Numbers.{lt_true, true_lt, le_true, true_le}
+use Rattle.std.specs.Char.{digit_value}
+use Rattle.std.specs.Str.Parse.{AllDigits}
+use Rattle.alt_base.proofs.Numbers.{lt_true, true_lt}
 use Rattle.origin_values.specs.HostReading.{read_host}
-use Rattle.origin_values.specs.OriginReading.{port_of}
+use Rattle.std.specs.Option.{option_and_then}
+use Rattle.origin_values.specs.PortGrammar.{SpellsPortDigits}
+use Rattle.origin_values.specs.PortReading.{read_port_digits}
+use Rattle.origin_values.proofs.PortDigits.{port_digits_spelled, port_digits_read}
 use Rattle.origin_values.specs.declared.host.Host.{Host}
 use Rattle.origin_values.proofs.Hosts.{read_host_complete, read_host_sound}
-use Rattle.altsvc_grammar.specs.AuthorityReading.{last_colon, read_port, read_optional_host, with_port, host_beside, split_at_colon, read_authority}
+use Rattle.altsvc_grammar.specs.AuthorityReading.{last_colon, unless_zero, read_port, read_optional_host, with_port, host_beside, split_at_colon, read_authority}
 use Rattle.altsvc_grammar.specs.AuthorityGrammar.{SpellsPort, SpellsOptionalHost, SpellsAuthority}
-use Rattle.alt_base.proofs.Conjunctions.{both}
 
 -- ports
 pub port_read : (digits : List ℕ) (port : ℕ) → SpellsPort digits port → read_port digits ≡ Some port
-port_read [] port s = absurd (omega (arith, s.numeral.0))
-port_read (b ∷ bs) port s =
-    let value : digits_value 10 (b ∷ bs) ≡ port = s.value in
-    let some : 0 < digits_value 10 (b ∷ bs) = omega (arith, s.some) in
-    let fits : digits_value 10 (b ∷ bs) < 65536 = omega (arith, s.fits) in
-    rw (le_true (length (b ∷ bs)) 5 s.short, digits_all (b ∷ bs) s.numeral.1, lt_true 0 (digits_value 10 (b ∷ bs)) some, lt_true (digits_value 10 (b ∷ bs)) 65536 fits) (ap Some value)
-
-some_is : (a b : ℕ) (t : Bool) → cond t (Some a) None ≡ Some b → (t ≡ true) × (a ≡ b)
-some_is a b true h = (refl, cc)
-some_is a b false h = cc
-
-if_some : (t : Bool) (o : Option ℕ) (b : ℕ) → cond t o None ≡ Some b → (t ≡ true) × (o ≡ Some b)
-if_some true o b h = (refl, h)
-if_some false o b h = cc
+port_read digits port s = ap (option_and_then unless_zero) (port_digits_read digits port s.spelled) ∙ ap (λ t. cond t (Some port) None) (lt_true 0 port (omega (arith, s.some)))
 
 pub port_spelled : (digits : List ℕ) (port : ℕ) → read_port digits ≡ Some port → SpellsPort digits port
-port_spelled [] port h = cc
-port_spelled (b ∷ bs) port h =
-    let outer = if_some (nat_le (length (b ∷ bs)) 5 && list_all is_ascii_digit (b ∷ bs)) (port_of (b ∷ bs)) port h in
-    let tests = both (nat_le (length (b ∷ bs)) 5) (list_all is_ascii_digit (b ∷ bs)) outer.0 in
-    let inner = some_is (digits_value 10 (b ∷ bs)) port (nat_lt 0 (digits_value 10 (b ∷ bs)) && nat_lt (digits_value 10 (b ∷ bs)) 65536) outer.1 in
-    let bounds = both (nat_lt 0 (digits_value 10 (b ∷ bs))) (nat_lt (digits_value 10 (b ∷ bs)) 65536) inner.0 in
-    let low : 0 < digits_value 10 (b ∷ bs) = true_lt 0 (digits_value 10 (b ∷ bs)) bounds.0 in
-    let high : digits_value 10 (b ∷ bs) < 65536 = true_lt (digits_value 10 (b ∷ bs)) 65536 bounds.1 in
-    let value : digits_value 10 (b ∷ bs) ≡ port = inner.1 in
-    record {
-      numeral = (omega arith, all_digits (b ∷ bs) tests.1);
-      short = true_le (length (b ∷ bs)) 5 tests.0;
-      value = value;
-      some = omega arith;
-      fits = omega arith;
-    }
+port_spelled digits port h = go (read_port_digits digits) refl h
+  where
+    positive : (n : ℕ) → unless_zero n ≡ Some port → (n ≡ port) × (0 < n)
+    positive n e = by_test (nat_lt 0 n) refl e
+      where
+        by_test : (t : Bool) → nat_lt 0 n ≡ t → cond t (Some n) None ≡ Some port → (n ≡ port) × (0 < n)
+        by_test true is f = (cc, true_lt 0 n is)
+        by_test false is f = cc
+
+    go : (o : Option ℕ) → read_port_digits digits ≡ o → option_and_then unless_zero o ≡ Some port → SpellsPort digits port
+    go None is e = cc
+    go (Some n) is e =
+        let p = positive n e in
+        record { spelled = subst (SpellsPortDigits digits) p.0 (port_digits_spelled digits n is); some = omega (arith, p.0, p.1) }
 
 -- hosts
 no_empty_host : read_host [] ≡ None
@@ -95,7 +80,7 @@ at_colon front digits = rw (take-append_seam front (58 ∷ digits), drop-append-
 
 pub authority_read : (text : List ℕ) (host : Option Host) (port : ℕ) → SpellsAuthority text host port → read_authority text ≡ Some (host, port)
 authority_read text host port s =
-    let found : last_colon 0 None (s.front ++ 58 ∷ s.digits) ≡ Some (length s.front) = colon_found s.front 0 None s.digits s.of_port.numeral.1 ∙ ap Some (omega arith) in
+    let found : last_colon 0 None (s.front ++ 58 ∷ s.digits) ≡ Some (length s.front) = colon_found s.front 0 None s.digits s.of_port.spelled.numeral.1 ∙ ap Some (omega arith) in
     ap read_authority s.spelled ∙ ap (split_at_colon (s.front ++ 58 ∷ s.digits)) found ∙ at_colon s.front s.digits
     ∙ rw (port_read s.digits port s.of_port, optional_host_read s.front host s.of_host) refl
 

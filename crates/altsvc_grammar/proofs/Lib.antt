@@ -2,6 +2,7 @@ pub mod Slices
 pub mod Fronts
 pub mod ParameterLemmas
 pub mod ProtocolLemmas
+pub mod KeyTests
 pub mod KeptLemmas
 pub mod ElementLemmas
 pub mod Spelling

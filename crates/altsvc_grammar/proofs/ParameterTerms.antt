@@ -1,6 +1,7 @@
 -- What parameters mean, computed by the tests of the reading, is what the grammar says that they mean, and only that.
 use Rattle.std.proofs.Common.{◌≡◌, ◌⊎◌, ℕ, Bool, true, false, cond, ◌&&◌, nat_eq, List, [], ◌∷◌, ◌++◌, map, codes, Option, None, Some, refl, ap, sym, ◌∙◌, subst, inl, inr}
 use Rattle.std.specs.Char.{to_ascii_lowercase}
+use Rattle.alt_base.proofs.Booleans.{one_truth}
 use Rattle.alt_base.proofs.Numbers.{eq_self, true_eq}
 use Rattle.field_text.specs.DeltaGrammar.{SpellsDelta, IsNoDelta}
 use Rattle.field_text.proofs.DeltaLemmas.{delta_spelled, delta_refused, one_delta_of}
@@ -112,11 +113,6 @@ one_said said e = ap persist_said e
 
 pub says_persist : (ps : List Parameter) → SaysPersist ps (persist_of ps)
 says_persist ps = record { said = first_named (codes "persist") ps; first = gives_first (codes "persist") ps; means = (said_one (first_named (codes "persist") ps), one_said (first_named (codes "persist") ps)) }
-
-one_truth : (a b : Bool) → (a ≡ true → b ≡ true) → (b ≡ true → a ≡ true) → a ≡ b
-one_truth true b to from = sym (to refl)
-one_truth false true to from = from refl
-one_truth false false to from = refl
 
 pub persist_is : (ps : List Parameter) (persist : Bool) → SaysPersist ps persist → persist_of ps ≡ persist
 persist_is ps persist h =

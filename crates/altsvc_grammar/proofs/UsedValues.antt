@@ -83,7 +83,7 @@ at_port host p digits rest port h none s =
     at_digits host p digits rest h none ∙ ap (used_port host (p + 1) (length digits) (digits ++ rest)) (port_read digits port s) ∙ ap (used_at_end host port (p + 1 + length digits)) (drop-append_seam digits rest)
 
 port_digits : (digits : List ℕ) (port : ℕ) → SpellsPort digits port → AllIn is_ascii_digit digits
-port_digits digits port s = ascii digits (digits_all digits s.numeral.1)
+port_digits digits port s = ascii digits (digits_all digits s.spelled.numeral.1)
   where
     ascii : (x : List ℕ) → list_all is_ascii_digit x ≡ true → AllIn is_ascii_digit x
     ascii [] h = tt

@@ -43,7 +43,7 @@ alt_valid : (a : Alternative) → IsAlternative a → IsAlt (alt_meant a)
 alt_valid a is =
     let s = is.authority in
     record {
-      key = record { proto = is.proto; host = optional_valid s.front a.host s.of_host; some = s.of_port.some; fits = s.of_port.fits };
+      key = record { proto = is.proto; host = optional_valid s.front a.host s.of_host; some = s.of_port.some; fits = s.of_port.spelled.most };
       seconds = seconds_bounded is.ma.said a.ma is.ma.means;
     }
 
@@ -81,7 +81,7 @@ value_valid x v s = subst IsAltSvc (sym s.means) (meaning_valid (elements_of (s.
 
 used_port_bounds : (tail : List ℕ) (port : ℕ) → SpellsUsedPort tail port → (1 ≤ port) × (port ≤ 65535)
 used_port_bounds tail port (inl s) = (omega (arith, s.1), omega (arith, s.1))
-used_port_bounds tail port (inr s) = (s.2.some, s.2.fits)
+used_port_bounds tail port (inr s) = (s.2.some, s.2.spelled.most)
 
 pub used_valid : (x : List ℕ) (used : Host × ℕ) → SpellsUsed x used → IsUsed used
 used_valid x used s = let bounds = used_port_bounds s.tail used.1 s.of_port in record { host = host_valid s.run used.0 s.of_host; some = bounds.0; fits = bounds.1 }

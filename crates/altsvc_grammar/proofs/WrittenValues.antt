@@ -160,7 +160,7 @@ pub port_spelled : (port : ℕ) → 1 ≤ port → port ≤ 65535 → SpellsPort
 port_spelled port some fits =
     let wide : port < 2 ^ 64 = omega arith in
     let n = decimal_is_IsNumeral port wide in
-    record { numeral = n.0; short = length-decimal-le 5 port (omega arith) (omega arith) wide; value = n.1; some = some; fits = fits }
+    record { spelled = record { numeral = n.0; short = length-decimal-le 5 port (omega arith) (omega arith) wide; value = n.1; most = fits }; some = some }
 
 authority_quoted : (key : AltKey) → IsKey key → AllIn is_quoted_text (authority_text key)
 authority_quoted key valid = AllIn-append is_quoted_text (optional_host_text key.host) (58 ∷ decimal key.port) (optional_quoted key.host valid.host) (refl, decimal_quoted key.port (omega (arith, valid.fits)))

@@ -1,7 +1,7 @@
 -- The authority of an alternative (RFC 7838 3, `alt-authority`), and its protocol (`protocol-id`).
 use Rattle.std.specs.Prelude.{◌≡◌, ℕ, ◌<◌, ◌≤◌, List, [], ◌∷◌, ◌++◌, length, All, Option, None, Some}
-use Rattle.std.specs.Str.Parse.{IsNumeral, digits_value}
 use Rattle.origin_values.specs.HostGrammar.{SpellsHost}
+use Rattle.origin_values.specs.PortGrammar.{SpellsPortDigits}
 use Rattle.origin_values.specs.declared.host.Host.{Host}
 
 -- 1 to 255 bytes; its spelling is its encoded form
@@ -12,11 +12,8 @@ pub record IsProtocol (proto : List ℕ) : Type 0 where
 
 -- 1 to 5 digits of a value from 1 to 65535
 pub record SpellsPort (digits : List ℕ) (port : ℕ) : Type 0 where
-  pub numeral : IsNumeral 10 digits
-  pub short : length digits ≤ 5
-  pub value : digits_value 10 digits ≡ port
+  pub spelled : SpellsPortDigits digits port
   pub some : 1 ≤ port
-  pub fits : port ≤ 65535
 
 -- nothing, or a host
 abbrev pub SpellsOptionalHost : List ℕ → Option Host → Type 0

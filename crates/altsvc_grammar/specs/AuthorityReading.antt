@@ -1,9 +1,8 @@
 -- Reading the authority of an alternative (RFC 7838 3, `alt-authority`): maybe a host, a colon and a port.
-use Rattle.std.specs.Prelude.{ℕ, ◌+◌, ◌&&◌, nat_eq, nat_le, List, [], ◌∷◌, length, take, drop, Option, None, Some, option_map, if◌then◌else◌}
-use Rattle.std.specs.List.{list_all}
-use Rattle.std.specs.Char.{is_ascii_digit}
+use Rattle.std.specs.Prelude.{ℕ, ◌+◌, nat_eq, nat_lt, List, [], ◌∷◌, take, drop, Option, None, Some, option_map, if◌then◌else◌}
+use Rattle.std.specs.Option.{option_and_then}
 use Rattle.origin_values.specs.HostReading.{read_host}
-use Rattle.origin_values.specs.OriginReading.{port_of}
+use Rattle.origin_values.specs.PortReading.{read_port_digits}
 use Rattle.origin_values.specs.declared.host.Host.{Host}
 
 -- where the last colon of a text at this place stands, behind one that was found before
@@ -12,9 +11,11 @@ last_colon place found [] = found
 last_colon place found (b ∷ bs) = last_colon (place + 1) (if nat_eq b 58 then Some place else found) bs
 
 -- the port that 1 to 5 digits write, from 1 to 65535
+abbrev pub unless_zero : ℕ → Option ℕ
+unless_zero port = if nat_lt 0 port then Some port else None
+
 abbrev pub read_port : List ℕ → Option ℕ
-read_port [] = None
-read_port (b ∷ bs) = if nat_le (length (b ∷ bs)) 5 && list_all is_ascii_digit (b ∷ bs) then port_of (b ∷ bs) else None
+read_port digits = option_and_then unless_zero (read_port_digits digits)
 
 -- the host of a text: none of an empty one
 abbrev pub read_optional_host : List ℕ → Option (Option Host)

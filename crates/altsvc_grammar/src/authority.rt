@@ -1,17 +1,9 @@
-ghost use Rattle.std.specs.Prelude.{◌≡◌, ◌≤◌, ◌<◌, ◌^◌, ◌+◌, length, None, true, IfOk, IfSome};
-ghost use Rattle.std.specs.List.{list_all};
-ghost use Rattle.std.specs.Char.{is_ascii_digit};
-ghost use Rattle.origin_values.specs.OriginReading.{port_of};
+ghost use Rattle.std.specs.Prelude.{◌≡◌, ◌≤◌, ◌<◌, ◌^◌, ◌+◌, length, IfOk, IfSome};
 ghost use Rattle.altsvc_grammar.specs.AuthorityReading.{last_colon, read_port, read_optional_host, read_authority};
 
 use alt_base::{NoMemory, Refused};
-use origin_values::Host;
+use origin_values::{Host, read_port_digits};
 use std::alloc::Global;
-
-/// The most digits of a port.
-const PORT_DIGITS: usize = 5;
-/// The least number that is no port.
-const PORT_END: u32 = 65536;
 
 // The host, if there is one, and the port of an authority; None where the text is none.
 pub(crate) fn read_authority(
@@ -52,31 +44,9 @@ fn last_colon(text: &[u8]) -> Option<usize>
 pub(crate) fn read_port(digits: &[u8]) -> Option<u16>
     ensures { result ≡ read_port digits.now }
 {
-    if digits.is_empty() || digits.len() > PORT_DIGITS || !are_digits(digits) {
-        return None;
-    }
-    port_of(digits)
-}
-
-fn are_digits(text: &[u8]) -> bool
-    ensures { result ≡ list_all is_ascii_digit text.now }
-{
-    text.iter().all(|b| b.is_ascii_digit())
-}
-
-// The port that digits write, from 1 to 65535. A larger value is kept as the least number that is no port.
-fn port_of(digits: &[u8]) -> Option<u16>
-    requires { list_all is_ascii_digit digits.now ≡ true }
-    ensures { result ≡ port_of digits.now }
-{
-    let mut value = 0;
-    for b in digits {
-        value = (value * 10 + u32::from(*b - b'0')).min(PORT_END);
-    }
-    if 0 < value && value < PORT_END {
-        Some(value as u16)
-    } else {
-        None
+    match read_port_digits(digits) {
+        Some(port) if port > 0 => Some(port),
+        _ => None,
     }
 }
 

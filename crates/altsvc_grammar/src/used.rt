@@ -1,7 +1,7 @@
 ghost use Rattle.std.specs.Prelude.{◌≡◌, ◌≤◌, ◌<◌, ◌^◌, ◌+◌, length, IfOk, IfSome, nat_eq};
 ghost use Rattle.alt_base.specs.Answers.{Answers, IfRefused};
 ghost use Rattle.origin_values.specs.HostReading.{read_host};
-ghost use Rattle.origin_values.specs.OriginReading.{bracket_end, count_before, digits_before};
+ghost use Rattle.origin_values.specs.OriginReading.{count_before, digits_before};
 ghost use Rattle.altsvc_grammar.specs.UsedReading.{read_used, used_host_end, used_at_end, used_digits, after_used_host};
 ghost use Rattle.altsvc_grammar.specs.UsedGrammar.{SpellsUsed, UsedRefusedAt};
 ghost use Rattle.altsvc_grammar.specs.Written.{used_text};
@@ -10,7 +10,7 @@ ghost use Rattle.alt_base.specs.declared.refusal.Refused.TheVariants.{At as Refu
 use crate::UsedRefusal;
 use crate::authority::read_port;
 use alt_base::{Bytes, ListOf, NoMemory, Refused};
-use origin_values::Host;
+use origin_values::{Host, bracket_end, digits_before};
 use std::alloc::Global;
 
 /// The port where none is written.
@@ -76,19 +76,6 @@ fn host_end(text: &[u8]) -> Option<usize>
     }
 }
 
-// The number of bytes up to and with the first closing bracket.
-fn bracket_end(text: &[u8]) -> Option<usize>
-    ensures value { result ≡ bracket_end text.now }
-    ensures within { IfSome result (λ end. end ≤ length text.now) }
-{
-    for (i, b) in text.iter().enumerate() {
-        if *b == b']' {
-            return Some(i + 1);
-        }
-    }
-    None
-}
-
 // The number of bytes before the first colon.
 fn plain_end(text: &[u8]) -> usize
     ensures value { result ≡ count_before (λ c. nat_eq c 58) text.now }
@@ -124,19 +111,6 @@ fn after_colon(host: Host, place: u32, text: &[u8]) -> Result<(Host, u16), Refus
         Some(port) => at_end(host, port, place + count as u32, &text[count..]),
         None => Err(refused(place, UsedRefusal::BadPort)),
     }
-}
-
-// How many digits stand in front.
-fn digits_before(text: &[u8]) -> usize
-    ensures value { result ≡ digits_before text.now }
-    ensures within { result ≤ length text.now }
-{
-    for (i, b) in text.iter().enumerate() {
-        if !b.is_ascii_digit() {
-            return i;
-        }
-    }
-    text.len()
 }
 
 // The host and the port, where nothing is left at this place.
