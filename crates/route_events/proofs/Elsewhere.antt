@@ -1,20 +1,18 @@
 -- Nothing is live for an origin for which no value was taken, and nothing failed on a route by which no attempt started.
-use Rattle.std.proofs.Common.{◌≡◌, ◌↔◌, inl, inr, ℕ, Bool, true, false, cond, not, ◌&&◌, ◌||◌, nat_eq, List, [], ◌∷◌, Option, Some, None, map, filter, refl, ap, sym, ◌∙◌, subst, rules, true≢false}
+use Rattle.std.proofs.Common.{◌≡◌, inl, inr, ℕ, Bool, true, false, cond, not, ◌&&◌, ◌||◌, nat_eq, List, [], ◌∷◌, Option, Some, None, map, filter, refl, ap, sym, ◌∙◌, subst, true≢false}
 use Rattle.std.specs.Option.{option_map_or}
 use Rattle.std.specs.List.{list_any}
 use Rattle.std.proofs.lemmas.List.Folds.{list_any-append}
 use Rattle.alt_base.proofs.Conjunctions.{both}
-use Rattle.altsvc_grammar.specs.Keys.{key_eq}
 use Rattle.altsvc_grammar.specs.declared.alt.Alt.{Alt}
-use Rattle.altsvc_grammar.specs.declared.alt_key.AltKey.{AltKey}
 use Rattle.origin_values.specs.Equality.{origin_eq}
+use Rattle.origin_values.proofs.Equal.{one_origin}
 use Rattle.origin_values.specs.declared.origin.Origin.{Origin}
 use Rattle.route_events.specs.declared.fact.Fact.{Fact}
 use Rattle.route_events.specs.declared.fact.Fact.TheVariants as fact
 use Rattle.route_events.specs.declared.action.Action.TheVariants as action
 use Rattle.route_events.specs.declared.attempt.Attempt.{Attempt}
 use Rattle.route_events.specs.declared.route.Route.{Route}
-use Rattle.route_events.specs.declared.route.Route.TheVariants as route
 use Rattle.route_events.specs.Journal.{Happened, Cut, Taken, Journal, newest_moment, of_action, readings}
 use Rattle.route_events.specs.Attempts.{attempts, has_ended, pending, pending_attempt}
 use Rattle.route_events.specs.Alternatives.{alternatives_of, newest_age, is_fresh, left_by, live}
@@ -22,20 +20,9 @@ use Rattle.route_events.specs.Authority.{route_eq}
 use Rattle.route_events.specs.Backoff.{Failures, no_failures, failed_at, is_on, is_attempt_on, opens_well, failures_after, failures}
 use Rattle.route_events.specs.Distinct.{are_apart, advertised_in, advertised_origins, pair_eq, attempted_routes}
 use Rattle.route_events.proofs.Lists.{IsIn, in_filter, find_in}
+use Rattle.route_events.proofs.RouteTests.{one_route}
 use Rattle.route_events.proofs.Apart.{distinct_apart, none_distinct}
 use Rattle.alt_base.proofs.Booleans.{first_of_neither, second_of_neither}
-
-one_origin : (a b : Origin) → (origin_eq a b ≡ true) ↔ (a ≡ b)
-one_origin a b = search rules
-
-one_key : (a b : AltKey) → (key_eq a b ≡ true) ↔ (a ≡ b)
-one_key a b = search rules
-
-one_route : (a b : Route) → route_eq a b ≡ true → a ≡ b
-one_route route.Direct route.Direct h = refl
-one_route route.Direct (route.Alt b) h = absurd (true≢false (sym h))
-one_route (route.Alt a) route.Direct h = absurd (true≢false (sym h))
-one_route (route.Alt a) (route.Alt b) h = ap route.Alt ((one_key a b).0 h)
 
 -- no value was taken for the origin
 none_taken : (j : Journal) (o : Origin) (now : ℕ) → list_any (λ p. origin_eq p o) (readings (λ older. of_action advertised_in) j) ≡ false → live j o now ≡ []

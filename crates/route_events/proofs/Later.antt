@@ -14,7 +14,8 @@ use Rattle.route_events.specs.Journal.{Happened, Cut, Taken, Journal, newest_mom
 use Rattle.route_events.specs.Alternatives.{alternatives_of, newest_age, is_fresh, live, took, left_by}
 use Rattle.route_events.specs.Backoff.{Failures, no_failures, failed_at, opens_well, is_attempt_on, failures_after, failures}
 use Rattle.route_events.specs.Alike.{Alike, brought}
-use Rattle.route_events.proofs.Lists.{filter_again, filter_swap}
+use Rattle.alt_base.proofs.Lists.{filter_within}
+use Rattle.route_events.proofs.Lists.{filter_swap}
 
 -- by the moment and the age of the value that was taken last, an alternative is still fresh
 abbrev pub fresh_by : Option (ℕ × ℕ) → ℕ → Alt → Bool
@@ -43,7 +44,7 @@ live_later (Taken (action.Alternatives p value) ∷ older) o s now earlier = by_
         (b : Bool) → live older o now ≡ filter (fresh_by (brought (took older o)) now) (live older o s) →
         cond b (filter (is_fresh (newest_moment older) (newest_age older) now) (alternatives_of value)) (live older o now)
         ≡ filter (fresh_by (brought (cond b (Some (record { value = value; moment = newest_moment older; age = newest_age older })) (took older o))) now) (cond b (filter (is_fresh (newest_moment older) (newest_age older) s) (alternatives_of value)) (live older o s))
-    by_origin true e = sym (filter_again (is_fresh (newest_moment older) (newest_age older) now) (is_fresh (newest_moment older) (newest_age older) s) (alternatives_of value) (λ a h. fresh_before (newest_moment older) (newest_age older) s now a earlier h))
+    by_origin true e = sym (filter_within (is_fresh (newest_moment older) (newest_age older) now) (is_fresh (newest_moment older) (newest_age older) s) (alternatives_of value) (λ a h. fresh_before (newest_moment older) (newest_age older) s now a earlier h))
     by_origin false e = e
 live_later (Taken _ ∷ older) o s now earlier = live_later older o s now earlier
 

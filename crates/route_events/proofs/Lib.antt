@@ -1,4 +1,5 @@
 pub mod Lists
+pub mod RouteTests
 pub mod Later
 pub mod LiveInWords
 pub mod FailuresInWords

@@ -3,6 +3,7 @@ use Rattle.std.proofs.Common.{◌≡◌, ◌⊎◌, inl, inr, ℕ, ◌<◌, suc,
 use Rattle.std.specs.List.{list_any}
 use Rattle.alt_base.proofs.Booleans.{contradicts}
 use Rattle.alt_base.proofs.Numbers.{eq_self}
+use Rattle.route_events.specs.Dispatch.{first_of}
 
 abbrev pub IsIn : {X : Type 0} → X → List X → Type 0
 IsIn x [] = ⊥
@@ -185,11 +186,11 @@ filter_swap p q xs = filter_twice p q xs ∙ filter_same (λ x. q x && p x) (λ 
     either_order false true = refl
     either_order false false = refl
 
--- a test behind one that passes wherever it does
-pub filter_again : {X : Type 0} (p q : X → Bool) (xs : List X) → ((x : X) → p x ≡ true → q x ≡ true) → filter p (filter q xs) ≡ filter p xs
-filter_again p q xs h = filter_twice p q xs ∙ filter_same (λ x. q x && p x) p xs (λ x. by_tests (q x) (p x) (h x))
+-- what is found is the first that passes
+pub first_found : {X : Type 0} (t : X → Bool) (xs : List X) → find t xs ≡ first_of (filter t xs)
+first_found t [] = refl
+first_found t (x ∷ xs) = by_test (t x) (first_found t xs)
   where
-    by_tests : (a b : Bool) → (b ≡ true → a ≡ true) → (a && b) ≡ b
-    by_tests true b e = refl
-    by_tests false true e = absurd (true≢false (sym (e refl)))
-    by_tests false false e = refl
+    by_test : (b : Bool) → find t xs ≡ first_of (filter t xs) → cond b (Some x) (find t xs) ≡ first_of (cond b (x ∷ filter t xs) (filter t xs))
+    by_test true rest = refl
+    by_test false rest = rest

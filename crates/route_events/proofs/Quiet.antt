@@ -3,15 +3,10 @@
 use Rattle.std.proofs.Common.{◌≡◌, ◌⊎◌, inl, inr, ℕ, ◌+◌, Bool, true, false, cond, not, ◌&&◌, nat_eq, List, [], ◌∷◌, ◌++◌, length, Option, Some, None, is_some, filter, refl, ap, sym, ◌∙◌, arith, true≢false}
 use Rattle.std.specs.List.{list_any}
 use Rattle.std.proofs.lemmas.List.Folds.{list_any-append}
-use Rattle.origin_values.specs.Equality.{host_eq}
 use Rattle.origin_values.specs.declared.host.Host.{Host}
 use Rattle.origin_values.specs.declared.origin.Origin.{Origin}
-use Rattle.std.specs.Option.{option_eq}
-use Rattle.altsvc_grammar.specs.Keys.{key_eq}
-use Rattle.altsvc_grammar.specs.declared.alt_key.AltKey.{AltKey}
 use Rattle.route_events.specs.declared.action.Action.TheVariants.{OpenTo, SendOn, Refuse}
 use Rattle.route_events.specs.declared.route.Route.{Route}
-use Rattle.route_events.specs.declared.route.Route.TheVariants.{Direct, Alt}
 use Rattle.route_events.specs.declared.request.Request.{Request}
 use Rattle.route_events.specs.declared.attempt.Attempt.{Attempt}
 use Rattle.route_events.specs.declared.connection.Connection.{Connection}
@@ -20,16 +15,15 @@ use Rattle.route_events.specs.Journal.{Happened, Taken, Journal, newest_moment}
 use Rattle.route_events.specs.Attempts.{attempts, has_ended, pending}
 use Rattle.route_events.specs.Requests.{requests}
 use Rattle.route_events.specs.Connections.{connections, outstanding, is_busy, is_http11, is_none_out}
-use Rattle.route_events.specs.Authority.{route_eq, is_authoritative, has_basis}
+use Rattle.route_events.specs.Authority.{is_authoritative, has_basis}
 use Rattle.route_events.specs.Backoff.{is_on}
 use Rattle.route_events.specs.Routes.{routes, is_usable, usable_routes, has_pending}
 use Rattle.route_events.specs.Dispatch.{is_by_alternative, carriers, free_carriers, first_of, or_else, best, first_alternative, decide, dispatch}
+use Rattle.route_events.proofs.RouteTests.{route_self}
 use Rattle.route_events.proofs.Lists.{IsIn, in_filter, filter_same, filter_fewer, filter_end, list_any_more}
 use Rattle.route_events.proofs.Sound.{Sound}
-use Rattle.alt_base.proofs.Numbers.{eq_self}
 use Rattle.std.proofs.lemmas.Bool.{or_left, or_right}
-use Rattle.alt_base.proofs.Lists.{text_self}
-use Rattle.origin_values.proofs.Equal.{host_self, origin_self}
+use Rattle.origin_values.proofs.Equal.{origin_self}
 
 pub record Quiet (before after : Journal) (now : ℕ) : Type 0 where
   pub moment_same : newest_moment after ≡ newest_moment before
@@ -197,24 +191,13 @@ quiet_open j now n o r = record {
   pending_stays = λ p s h. ap (list_any (is_on p s)) (pending_more j n o r) ∙ list_any-append (is_on p s) (pending j) (cond (not (has_ended j n)) (record { number = n; origin = o; route = r } ∷ []) []) ∙ or_left _ _ h;
 }
 
-pub key_eq-self : (key : AltKey) → key_eq key key ≡ true
-key_eq-self key = rw (text_self key.proto, optional_same key.host, eq_self key.port) refl
-  where
-    optional_same : (h : Option Host) → option_eq host_eq h h ≡ true
-    optional_same None = refl
-    optional_same (Some h) = host_self h
-
-pub route_eq-self : (r : Route) → route_eq r r ≡ true
-route_eq-self Direct = refl
-route_eq-self (Alt key) = key_eq-self key
-
 -- an attempt that was just started is pending
 pub opened_pending : (j : Journal) (o : Origin) (r : Route) → Sound j → has_pending (Taken (OpenTo (length (attempts j) + 1) o r) ∷ j) o r ≡ true
 opened_pending j o r sound =
     let n : ℕ = length (attempts j) + 1 in
     let fresh : has_ended j n ≡ false = sound.not_ended n (omega arith) in
     let added : List Attempt = cond (not (has_ended j n)) (record { number = n; origin = o; route = r } ∷ []) [] in
-    let new : list_any (is_on o r) added ≡ true = rw (fresh, origin_self o, route_eq-self r) refl in
+    let new : list_any (is_on o r) added ≡ true = rw (fresh, origin_self o, route_self r) refl in
     ap (list_any (is_on o r)) (pending_more j n o r) ∙ list_any-append (is_on o r) (pending j) added ∙ or_right (list_any (is_on o r) (pending j)) (list_any (is_on o r) added) new
 
 -- time that passes within one moment
