@@ -6,7 +6,7 @@ use Rattle.std.proofs.lemmas.List.{length-map, with_items_is, map-append}
 use Rattle.std.proofs.lemmas.List.Elements.{filter_more}
 use Rattle.network_cache.specs.declared.kept.Kept.{Kept}
 use Rattle.network_cache.specs.Freshness.{is_fresh}
-use Rattle.alt_base.proofs.Booleans.{contradicts}
+use Rattle.alt_base.proofs.Lists.{filter_within}
 
 -- what is written over a vector's items, each mapped, are its items
 pub mapped_items : {X Z : Type 0} (v : Vec X Z) (f : X → X) (ws : List X) → ws ≡ map f v.items → (with_items v ws).items ≡ map f v.items
@@ -20,17 +20,6 @@ passed_more {X} {Y} p f xs i d within =
     by_test : (b : Bool) → map f (cond b (get_or xs i d ∷ []) []) ≡ cond {A = List Y} b (f (get_or xs i d) ∷ []) []
     by_test true = refl
     by_test false = refl
-
--- a harder test may follow an easier one
-filter_within : {X : Type 0} (p q : X → Bool) (xs : List X) → ((x : X) → p x ≡ true → q x ≡ true) → filter p (filter q xs) ≡ filter p xs
-filter_within p q [] h = refl
-filter_within {X} p q (x ∷ xs) h = by_tests (p x) (q x) refl refl (filter_within p q xs h)
-  where
-    by_tests : (b c : Bool) → p x ≡ b → q x ≡ c → filter p (filter q xs) ≡ filter p xs → filter p (cond c (x ∷ filter q xs) (filter q xs)) ≡ cond b (x ∷ filter p xs) (filter p xs)
-    by_tests true true px qx rest = rw px (ap (λ zs. x ∷ zs) rest)
-    by_tests false true px qx rest = rw px rest
-    by_tests true false px qx rest = contradicts (q x) (h x px) qx
-    by_tests false false px qx rest = rest
 
 fresh_before : (age moment now t ma : ℕ) → now ≤ t → nat_lt (age + (t - moment)) ma ≡ true → nat_lt (age + (now - moment)) ma ≡ true
 fresh_before age moment now t ma h e = grind arith

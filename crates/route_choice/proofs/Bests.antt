@@ -4,7 +4,7 @@ use Rattle.std.specs.Prelude.{find}
 use Rattle.route_events.specs.Dispatch.{first_of}
 use Rattle.route_choice.specs.declared.candidate.Candidate.{Candidate}
 use Rattle.route_choice.specs.Candidates.{is_by_alt, is_basis, best_of, number_of}
-use Rattle.route_choice.proofs.Places.{first_found}
+use Rattle.route_events.proofs.Lists.{first_found}
 
 abbrev by_alt : Candidate → Bool
 by_alt c = is_by_alt c.basis

@@ -1,5 +1,4 @@
 pub mod Backoffs
-pub mod Lists
 pub mod Same
 pub mod Lookups
 pub mod PairLists

@@ -1,16 +1,7 @@
 -- The place of the first item that passes a test.
-use Rattle.std.proofs.Common.{◌≡◌, ℕ, ◌+◌, ◌-◌, ◌≤◌, suc, Bool, true, false, cond, List, [], ◌∷◌, Some, None, filter, refl, ap, sym, ◌∙◌, arith}
+use Rattle.std.proofs.Common.{◌≡◌, ℕ, ◌+◌, ◌-◌, ◌≤◌, suc, Bool, true, false, cond, List, [], ◌∷◌, Some, None, refl, ap, sym, ◌∙◌, arith}
 use Rattle.std.specs.Prelude.{find, slice_get}
 use Rattle.std.specs.List.{position_from}
-use Rattle.route_events.specs.Dispatch.{first_of}
-
-pub first_found : {X : Type 0} (t : X → Bool) (xs : List X) → find t xs ≡ first_of (filter t xs)
-first_found t [] = refl
-first_found t (x ∷ xs) = by_test (t x) (first_found t xs)
-  where
-    by_test : (b : Bool) → find t xs ≡ first_of (filter t xs) → cond b (Some x) (find t xs) ≡ first_of (cond b (x ∷ filter t xs) (filter t xs))
-    by_test true rest = refl
-    by_test false rest = rest
 
 -- its place isn't below the first
 from_first : {X : Type 0} (t : X → Bool) (i place : ℕ) (xs : List X) → position_from t i xs ≡ Some place → i ≤ place

@@ -1,40 +1,20 @@
 -- An origin and a route that the tests take for another's are the other's.
-use Rattle.std.proofs.Common.{◌≡◌, ◌↔◌, Bool, true, false, ◌&&◌, refl, ap, sym, subst, rules, true≢false}
-use Rattle.altsvc_grammar.specs.declared.alt_key.AltKey.{AltKey}
-use Rattle.altsvc_grammar.specs.Keys.{key_eq}
+use Rattle.std.proofs.Common.{◌≡◌, Bool, true, false, ◌&&◌, refl, subst}
 use Rattle.origin_values.specs.declared.origin.Origin.{Origin}
 use Rattle.origin_values.specs.Equality.{origin_eq}
+use Rattle.origin_values.proofs.Equal.{origin_self, true_origin}
 use Rattle.route_events.specs.declared.route.Route.{Route}
-use Rattle.route_events.specs.declared.route.Route.TheVariants.{Direct, Alt}
 use Rattle.route_events.specs.Authority.{route_eq}
+use Rattle.route_events.proofs.RouteTests.{route_self, one_route}
 use Rattle.alt_base.proofs.Booleans.{contradicts, first_of_both, second_of_both}
 use Rattle.std.proofs.lemmas.Bool.{and_from}
 
-one_origin : (a b : Origin) → (origin_eq a b ≡ true) ↔ (a ≡ b)
-one_origin a b = search rules
-
-one_key : (a b : AltKey) → (key_eq a b ≡ true) ↔ (a ≡ b)
-one_key a b = search rules
-
-own_key : (a : AltKey) → key_eq a a ≡ true
-own_key a = (one_key a a).1 refl
-
-one_route : (a b : Route) → route_eq a b ≡ true → a ≡ b
-one_route Direct Direct h = refl
-one_route Direct (Alt b) h = absurd (true≢false (sym h))
-one_route (Alt a) Direct h = absurd (true≢false (sym h))
-one_route (Alt a) (Alt b) h = ap Alt ((one_key a b).0 h)
-
-own_route : (r : Route) → route_eq r r ≡ true
-own_route Direct = refl
-own_route (Alt key) = own_key key
-
 -- they are their own
 pub own : (o : Origin) (r : Route) → (origin_eq o o && route_eq r r) ≡ true
-own o r = and_from (origin_eq o o) (route_eq r r) ((one_origin o o).1 refl) (own_route r)
+own o r = and_from (origin_eq o o) (route_eq r r) (origin_self o) (route_self r)
 
 same_origin : (o p : Origin) (r s : Route) → (origin_eq o p && route_eq r s) ≡ true → o ≡ p
-same_origin o p r s h = (one_origin o p).0 (first_of_both (origin_eq o p) (route_eq r s) h)
+same_origin o p r s h = true_origin o p (first_of_both (origin_eq o p) (route_eq r s) h)
 
 same_route : (o p : Origin) (r s : Route) → (origin_eq o p && route_eq r s) ≡ true → r ≡ s
 same_route o p r s h = one_route r s (second_of_both (origin_eq o p) (route_eq r s) h)
