@@ -13,7 +13,8 @@ use Rattle.http_header.specs.FieldName.{IsFieldName}
 use Rattle.http_header.proofs.TokenLemmas.{IsFieldName-from_test}
 use Rattle.event_lines.specs.ResponseGrammar.{Field, is_value_byte}
 use Rattle.event_lines.specs.ResponseReading.{is_name, is_before_colon, trimmed, field_from, field_behind, field_of}
-use Rattle.event_lines.proofs.FieldParts.{taken_by, dropped_by}
+use Rattle.field_text.proofs.RunLemmas.{taken_by}
+use Rattle.event_lines.proofs.FieldParts.{dropped_by}
 
 -- what the test of a name says
 pub name_sound : (text : List ℕ) → is_name text ≡ true → IsFieldName text

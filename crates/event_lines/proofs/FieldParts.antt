@@ -1,24 +1,13 @@
 -- The parts of a field of a response: runs in front, and the spaces at the end.
 use Rattle.std.proofs.Common.{◌≡◌, ℕ, ◌+◌, ◌-◌, ◌≤◌, Bool, true, false, cond, List, [], ◌∷◌, length, take, drop, refl, ap, ◌∙◌, arith, length-drop}
 use Rattle.std.proofs.lemmas.List.{take_all}
-use Rattle.std.proofs.Math.Seq.{drop-append_seam, take-append_seam}
 use Rattle.field_text.specs.Runs.{run_of, after_run}
-use Rattle.field_text.proofs.RunLemmas.{longest_run}
+use Rattle.field_text.proofs.RunLemmas.{run_dropped, taken_by}
 use Rattle.event_lines.specs.Parts.{Part, is_space}
 use Rattle.event_lines.specs.ResponseGrammar.{is_word_byte}
 use Rattle.event_lines.specs.ResponseReading.{short_word, behind_short_word, onto_trimmed, without_last_spaces, trimmed}
 
--- a run in front is taken by its length, and dropped by it
-pub run_taken : (class : ℕ → Bool) (x : List ℕ) → take (length (run_of class x)) x ≡ run_of class x
-run_taken class x = ap (take (length (run_of class x))) (longest_run class x).text ∙ take-append_seam (run_of class x) (after_run class x)
-
-pub run_dropped : (class : ℕ → Bool) (x : List ℕ) → drop (length (run_of class x)) x ≡ after_run class x
-run_dropped class x = ap (drop (length (run_of class x))) (longest_run class x).text ∙ drop-append_seam (run_of class x) (after_run class x)
-
--- by a number that is that length
-pub taken_by : (class : ℕ → Bool) (x : List ℕ) (n : ℕ) → n ≡ length (run_of class x) → take n x ≡ run_of class x
-taken_by class x n is = ap (λ m. take m x) is ∙ run_taken class x
-
+-- a run in front is dropped by its length, as a call is given what is left
 pub dropped_by : (class : ℕ → Bool) (x : List ℕ) (n : ℕ) → n ≡ length (run_of class x) → n ≤ length x → take (length x - n) (drop n x) ≡ after_run class x
 dropped_by class x n is within = take_all (length x - n) (drop n x) (omega (arith, length-drop n x)) ∙ ap (λ m. drop m x) is ∙ run_dropped class x
 

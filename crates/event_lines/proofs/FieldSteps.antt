@@ -13,7 +13,8 @@ use Rattle.event_lines.specs.ResponseReading.{onto_first, field_texts, field_of,
 use Rattle.event_lines.specs.declared.response.Reply.{Reply}
 use Rattle.event_lines.specs.declared.refusal.LineRefusal.{LineRefusal}
 use Rattle.event_lines.specs.declared.refusal.LineRefusal.TheVariants.{BadField}
-use Rattle.event_lines.proofs.FieldParts.{taken_by, dropped_by}
+use Rattle.field_text.proofs.RunLemmas.{taken_by}
+use Rattle.event_lines.proofs.FieldParts.{dropped_by}
 
 -- the texts behind the tab that a text begins with
 abbrev pub behind_texts : List ℕ → List (List ℕ)
