@@ -15,6 +15,7 @@ use Rattle.route_events.specs.declared.attempt.Attempt.{Attempt}
 use Rattle.route_events.specs.declared.route.Route.{Route}
 use Rattle.route_events.specs.Journal.{Happened, Cut, Taken, Journal, newest_moment, of_action, readings}
 use Rattle.route_events.specs.Attempts.{attempts, has_ended, pending, pending_attempt}
+use Rattle.route_events.specs.Misdirection.{gives_up}
 use Rattle.route_events.specs.Alternatives.{alternatives_of, newest_age, is_fresh, left_by, live}
 use Rattle.route_events.specs.Authority.{route_eq}
 use Rattle.route_events.specs.Backoff.{Failures, no_failures, failed_at, is_on, is_attempt_on, opens_well, failures_after, failures}
@@ -29,8 +30,9 @@ none_taken : (j : Journal) (o : Origin) (now : ℕ) → list_any (λ p. origin_e
 none_taken [] o now none = refl
 none_taken (Happened moment happened handed_in ∷ older) o now none = by_fact happened (none_taken older o now none)
   where
-    by_fact : (f : Fact) → live older o now ≡ [] → left_by f (live older o now) ≡ []
+    by_fact : (f : Fact) → live older o now ≡ [] → left_by older o f (live older o now) ≡ []
     by_fact fact.Network rest = ap (filter (λ (a : Alt). a.persist)) rest
+    by_fact (fact.Response q status age altsvc) rest = ap (filter (λ (a : Alt). not (gives_up older o (fact.Response q status age altsvc) a.key))) rest
     by_fact f rest = rest
 none_taken (Cut moment conn length ∷ older) o now none = none_taken older o now none
 none_taken (Taken (action.Alternatives p value) ∷ older) o now none =

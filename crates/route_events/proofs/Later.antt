@@ -1,6 +1,6 @@
 -- What of a history tells the live alternatives of an origin at a later moment, and the failures of a route: no more than
 -- two histories share that are alike.
-use Rattle.std.proofs.Common.{◌≡◌, ◌⊎◌, inl, inr, ℕ, ◌+◌, ◌-◌, ◌≤◌, Bool, true, false, cond, nat_lt, [], ◌∷◌, Option, Some, None, filter, refl, ap, sym, ◌∙◌, arith}
+use Rattle.std.proofs.Common.{◌≡◌, ◌⊎◌, inl, inr, ℕ, ◌+◌, ◌-◌, ◌≤◌, Bool, true, false, cond, not, nat_lt, [], ◌∷◌, Option, Some, None, filter, refl, ap, sym, ◌∙◌, arith}
 use Rattle.origin_values.specs.Equality.{origin_eq}
 use Rattle.origin_values.specs.declared.origin.Origin.{Origin}
 use Rattle.altsvc_grammar.specs.declared.alt.Alt.{Alt}
@@ -11,6 +11,7 @@ use Rattle.route_events.specs.declared.action.Action.TheVariants as action
 use Rattle.route_events.specs.declared.route.Route.{Route}
 use Rattle.route_events.specs.declared.route.Route.TheVariants as route
 use Rattle.route_events.specs.Journal.{Happened, Cut, Taken, Journal, newest_moment}
+use Rattle.route_events.specs.Misdirection.{gives_up}
 use Rattle.route_events.specs.Alternatives.{alternatives_of, newest_age, is_fresh, live, took, left_by}
 use Rattle.route_events.specs.Backoff.{Failures, no_failures, failed_at, opens_well, is_attempt_on, failures_after, failures}
 use Rattle.route_events.specs.Alike.{Alike, brought}
@@ -34,8 +35,12 @@ pub live_later : (j : Journal) (o : Origin) (s now : ℕ) → s ≤ now → live
 live_later [] o s now earlier = refl
 live_later (Happened moment happened handed_in ∷ older) o s now earlier = by_fact happened (live_later older o s now earlier)
   where
-    by_fact : (f : Fact) → live older o now ≡ filter (fresh_by (brought (took older o)) now) (live older o s) → left_by f (live older o now) ≡ filter (fresh_by (brought (took older o)) now) (left_by f (live older o s))
+    by_fact : (f : Fact) → live older o now ≡ filter (fresh_by (brought (took older o)) now) (live older o s) → left_by older o f (live older o now) ≡ filter (fresh_by (brought (took older o)) now) (left_by older o f (live older o s))
     by_fact fact.Network e = ap (filter (λ (a : Alt). a.persist)) e ∙ filter_swap (λ (a : Alt). a.persist) (fresh_by (brought (took older o)) now) (live older o s)
+    by_fact (fact.Response q status age altsvc) e = ap (filter spared) e ∙ filter_swap spared (fresh_by (brought (took older o)) now) (live older o s)
+      where
+        spared : Alt → Bool
+        spared a = not (gives_up older o (fact.Response q status age altsvc) a.key)
     by_fact _ e = e
 live_later (Cut moment conn length ∷ older) o s now earlier = live_later older o s now earlier
 live_later (Taken (action.Alternatives p value) ∷ older) o s now earlier = by_origin (origin_eq p o) (live_later older o s now earlier)

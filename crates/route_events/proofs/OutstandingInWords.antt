@@ -5,8 +5,7 @@ use Rattle.route_events.specs.declared.fact.Fact.TheVariants.{Request, Response}
 use Rattle.route_events.specs.declared.action.Action.TheVariants.{SendOn, Refuse, Lost}
 use Rattle.route_events.specs.Journal.{Happened, Cut, Taken, Journal}
 use Rattle.route_events.specs.Requests.{Standing, Waits, OutOn, Over, after_status, standing}
-use Rattle.route_events.specs.Connections.{outstanding, without}
-use Rattle.route_events.specs.Advertisements.{is_one_of}
+use Rattle.route_events.specs.Connections.{is_one_of, outstanding, without}
 use Rattle.route_events.proofs.Lists.{IsIn, nat_eq-flip, filter_in, in_append, in_end, some_in}
 use Rattle.route_events.proofs.Sound.{Sound}
 use Rattle.alt_base.proofs.Numbers.{true_eq, eq_self}
@@ -17,7 +16,7 @@ one_of_in n [] none = absurd none
 one_of_in n (m ∷ ms) (inl same) = or_left (nat_eq n m) (is_one_of n ms) (subst (λ k. nat_eq n k ≡ true) same (eq_self n))
 one_of_in n (m ∷ ms) (inr later) = or_right (nat_eq n m) (is_one_of n ms) (one_of_in n ms later)
 
-in_one_of : (n : ℕ) (ns : List ℕ) → is_one_of n ns ≡ true → IsIn n ns
+pub in_one_of : (n : ℕ) (ns : List ℕ) → is_one_of n ns ≡ true → IsIn n ns
 in_one_of n ns e = let found = some_in (nat_eq n) ns e in subst (λ k. IsIn k ns) (sym (true_eq n found.0 found.2)) found.1
 
 -- where a request stands by an entry that moves one: by it, where that one is the request, else as before

@@ -8,7 +8,7 @@ use Rattle.altsvc_grammar.specs.ValueReading.{read_value}
 use Rattle.route_events.specs.declared.fact.Fact.{Fact}
 use Rattle.route_events.specs.declared.fact.Fact.TheVariants.{Closed, Response, Tick}
 use Rattle.route_events.specs.declared.action.Action.{Action}
-use Rattle.route_events.specs.declared.action.Action.TheVariants.{Lost, Field}
+use Rattle.route_events.specs.declared.action.Action.TheVariants.{Lost, Retry, Field}
 use Rattle.route_events.specs.declared.refusal.StepRefusal.{StepRefusal}
 use Rattle.route_events.specs.declared.request.Request.{Request}
 use Rattle.route_events.specs.Journal.{Happened, Cut, Taken, Journal, newest_moment}
@@ -16,7 +16,7 @@ use Rattle.route_events.specs.Requests.{requests, request_of, standing, waits, w
 use Rattle.route_events.specs.Connections.{outstanding}
 use Rattle.route_events.specs.Authority.{is_https}
 use Rattle.route_events.specs.Dispatch.{dispatch}
-use Rattle.route_events.specs.Advertisements.{is_answered_by_authority, value_taken, value_of_reading, field_effects}
+use Rattle.route_events.specs.Advertisements.{is_answered_by_authority, value_taken, value_of_reading, field_effects, answer_effects}
 use Rattle.route_events.specs.Step.{IsRun, Begun, Stepped, refusal, settled, step, run, effects, with_fact}
 use Rattle.route_events.specs.Headline.{MayWait, IsAllowed, EachAction}
 use Rattle.route_events.proofs.Lists.{IsIn, in_filter, filter_in, apart_filter, all_from_in}
@@ -77,9 +77,16 @@ field_effect j now status (Some bytes) q = (by_misdirected (nat_eq status 421), 
     by_misdirected true = tt
     by_misdirected false = by_scheme (not (is_https q.origin.scheme))
 
-answer_effect : (j : Journal) (now status : ℕ) (altsvc : Option (List ℕ)) (w : Option Request) → AreEffects (option_map_or (field_effects j now status altsvc) w [])
-answer_effect j now status altsvc None = tt
-answer_effect j now status altsvc (Some q) = field_effect j now status altsvc q
+field_effect_of : (j : Journal) (now status : ℕ) (altsvc : Option (List ℕ)) (w : Option Request) → AreEffects (option_map_or (field_effects j now status altsvc) w [])
+field_effect_of j now status altsvc None = tt
+field_effect_of j now status altsvc (Some q) = field_effect j now status altsvc q
+
+answer_effect : (j : Journal) (now q status : ℕ) (altsvc : Option (List ℕ)) → AreEffects (answer_effects j now q status altsvc)
+answer_effect j now q status altsvc = by_misdirected (nat_eq status 421)
+  where
+    by_misdirected : (b : Bool) → AreEffects (cond b (Retry q ∷ []) [] ++ option_map_or (field_effects j now status altsvc) (request_of j q) [])
+    by_misdirected true = (tt, field_effect_of j now status altsvc (request_of j q))
+    by_misdirected false = field_effect_of j now status altsvc (request_of j q)
 
 are_lost : (qs : List ℕ) → AreEffects (map Lost qs)
 are_lost [] = tt
@@ -87,7 +94,7 @@ are_lost (q ∷ qs) = (tt, are_lost qs)
 
 pub are_effects : (j : Journal) (now : ℕ) (fact : Fact) → AreEffects (effects j now fact)
 are_effects j now (Closed conn) = are_lost (outstanding j conn)
-are_effects j now (Response q status age altsvc) = answer_effect j now status altsvc (request_of j q)
+are_effects j now (Response q status age altsvc) = answer_effect j now q status altsvc
 are_effects j now _ = tt
 
 step_is : (j : Journal) (now : ℕ) (fact : Fact) → refusal j now fact ≡ None → IsSettled j → IsSettled (step j now fact)

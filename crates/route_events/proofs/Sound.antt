@@ -11,7 +11,7 @@ use Rattle.origin_values.specs.declared.proto.Proto.{Proto}
 use Rattle.origin_values.specs.declared.address.Addr.{Addr}
 use Rattle.route_events.specs.declared.fact.Fact.{Fact}
 use Rattle.route_events.specs.declared.fact.Fact.TheVariants as fact
-use Rattle.route_events.specs.declared.action.Action.TheVariants.{OpenTo, SendOn, Refuse, Lost, Alternatives, Field}
+use Rattle.route_events.specs.declared.action.Action.TheVariants.{OpenTo, SendOn, Refuse, Lost, Retry, Alternatives, Field}
 use Rattle.route_events.specs.declared.route.Route.{Route}
 use Rattle.route_events.specs.declared.request.Request.{Request}
 use Rattle.route_events.specs.declared.attempt.Attempt.{Attempt}
@@ -174,6 +174,20 @@ sound_lost j q sound = record {
 -- what a value of alternatives changes is none of this
 pub sound_alternatives : (j : Journal) (o : Origin) (value : AltSvc) → Sound j → Sound (Taken (Alternatives o value) ∷ j)
 sound_alternatives j o value sound = record {
+  counted = sound.counted;
+  not_ended = sound.not_ended;
+  attempts_apart = sound.attempts_apart;
+  requests_apart = sound.requests_apart;
+  newest = sound.newest;
+  connections_apart = sound.connections_apart;
+  ended = sound.ended;
+  out_stands = sound.out_stands;
+  out_known = sound.out_known;
+  unused = sound.unused;
+}
+
+pub sound_retry : (j : Journal) (q : ℕ) → Sound j → Sound (Taken (Retry q) ∷ j)
+sound_retry j q sound = record {
   counted = sound.counted;
   not_ended = sound.not_ended;
   attempts_apart = sound.attempts_apart;

@@ -1,5 +1,5 @@
--- What the client does with the Alt-Svc of a response (RFC 7838 3).
-use Rattle.std.specs.Prelude.{ℕ, Bool, not, ◌&&◌, nat_eq, List, [], ◌∷◌, Option, Some, None, Result, Ok, Err, if◌then◌else◌}
+-- What the client does for a response, and with its Alt-Svc (RFC 7838 3).
+use Rattle.std.specs.Prelude.{ℕ, Bool, not, ◌&&◌, nat_eq, List, [], ◌∷◌, ◌++◌, Option, Some, None, Result, Ok, Err, if◌then◌else◌}
 use Rattle.std.specs.Option.{option_map_or}
 use Rattle.std.specs.List.{list_any}
 use Rattle.alt_base.specs.declared.refusal.At.{At}
@@ -8,17 +8,13 @@ use Rattle.altsvc_grammar.specs.ValueReading.{read_value}
 use Rattle.altsvc_grammar.specs.declared.alt_svc.AltSvc.{AltSvc}
 use Rattle.altsvc_grammar.specs.declared.refusal.AltRefusal.{AltRefusal}
 use Rattle.route_events.specs.declared.action.Action.{Action}
-use Rattle.route_events.specs.declared.action.Action.TheVariants.{Alternatives, Field}
+use Rattle.route_events.specs.declared.action.Action.TheVariants.{Retry, Alternatives, Field}
 use Rattle.route_events.specs.declared.request.Request.{Request}
 use Rattle.route_events.specs.declared.connection.Connection.{Connection}
 use Rattle.route_events.specs.Journal.{Journal}
 use Rattle.route_events.specs.Requests.{request_of}
-use Rattle.route_events.specs.Connections.{open_connections, outstanding}
+use Rattle.route_events.specs.Connections.{open_connections, is_one_of, outstanding}
 use Rattle.route_events.specs.Authority.{is_https, is_authoritative}
-
--- a request is one of those
-abbrev pub is_one_of : ℕ → List ℕ → Bool
-is_one_of number numbers = list_any (nat_eq number) numbers
 
 -- the connection on which a request is outstanding is authoritative for its origin
 abbrev pub is_answered_by_authority : Journal → ℕ → Request → Bool
@@ -46,6 +42,11 @@ abbrev pub field_effects : Journal → ℕ → ℕ → Option (List ℕ) → Req
 field_effects older now status None q = []
 field_effects older now status (Some bytes) q = advertisement older now q status bytes ∷ []
 
+-- a request that the server turned away is tried again (RFC 9110 15.5.20)
+abbrev pub retries : ℕ → ℕ → List Action
+retries request status = if nat_eq status 421 then Retry request ∷ [] else []
+
 -- what is done for a response, in the journal below it
 abbrev pub answer_effects : Journal → ℕ → ℕ → ℕ → Option (List ℕ) → List Action
-answer_effects older now request status altsvc = option_map_or (field_effects older now status altsvc) (request_of older request) []
+answer_effects older now request status altsvc =
+    retries request status ++ option_map_or (field_effects older now status altsvc) (request_of older request) []

@@ -23,6 +23,7 @@ use Rattle.route_events.specs.declared.fact.Fact.TheVariants as fact
 use Rattle.route_events.specs.declared.action.Action.TheVariants as action
 use Rattle.route_events.specs.Journal.{Happened, Cut, Taken, Journal}
 use Rattle.route_events.specs.Connections.{is_open, outstanding, send_count}
+use Rattle.route_events.specs.Misdirection.{is_misdirected}
 use Rattle.route_events.specs.Records.{ConnectionRecord}
 use Rattle.route_events.specs.Alternatives.{alternatives_of, is_listed, live}
 
@@ -113,10 +114,6 @@ is_upheld (Cut moment conn length ∷ older) c = is_upheld older c
 is_upheld (Taken (action.Alternatives o value) ∷ older) c =
     (not (origin_eq o c.origin) || gives (alternatives_of value) c.route) && is_upheld older c
 is_upheld (Taken _ ∷ older) c = is_upheld older c
-
--- a 421 took the origin away, and no ORIGIN frame gave it back (RFC 9110 15.5.20, RFC 8336 2.3). No 421 is read yet.
-abbrev pub is_misdirected : Journal → Connection → Origin → Bool
-is_misdirected journal c o = false
 
 -- an ORIGIN frame was accepted on the connection (RFC 8336 2.3). No frame is read yet.
 abbrev pub is_gated : Journal → Connection → Bool

@@ -63,6 +63,10 @@ abbrev pub without_any : Option ℕ → List ℕ → List ℕ
 without_any None numbers = numbers
 without_any (Some number) numbers = without number numbers
 
+-- a request is one of those
+abbrev pub is_one_of : ℕ → List ℕ → Bool
+is_one_of number numbers = list_any (nat_eq number) numbers
+
 -- the requests that are outstanding on a connection, in the order of their sends
 abbrev pub outstanding : Journal → ℕ → List ℕ
 outstanding [] conn = []

@@ -6,12 +6,14 @@ use Rattle.std.specs.Option.{option_map_or}
 use Rattle.origin_values.specs.Equality.{origin_eq}
 use Rattle.origin_values.specs.declared.origin.Origin.{Origin}
 use Rattle.altsvc_grammar.specs.declared.alt.Alt.{Alt}
+use Rattle.altsvc_grammar.specs.declared.alt_key.AltKey.{AltKey}
 use Rattle.altsvc_grammar.specs.declared.alt_svc.AltSvc.{AltSvc}
 use Rattle.route_events.specs.declared.action.Action.TheVariants as action
 use Rattle.route_events.specs.declared.fact.Fact.{Fact}
 use Rattle.route_events.specs.declared.fact.Fact.TheVariants as fact
 use Rattle.route_events.specs.declared.route.Route.{Route}
 use Rattle.route_events.specs.Journal.{Entry, Happened, Cut, Taken, Journal, of_fact, of_action, newest_moment}
+use Rattle.route_events.specs.Misdirection.{gives_up}
 use Rattle.route_events.specs.Alternatives.{alternatives_of, newest_age, is_fresh}
 use Rattle.route_events.specs.Backoff.{is_attempt_on, opens_well}
 use Rattle.route_events.specs.Distinct.{advertised_in}
@@ -28,9 +30,19 @@ is_change _ = false
 abbrev pub changes_network : Entry → Bool
 changes_network entry = option_map_or is_change (of_fact (λ fact. Some fact) entry) false
 
+abbrev pub of_happened : (Fact → Bool) → Entry → Bool
+of_happened test entry = option_map_or test (of_fact (λ fact. Some fact) entry) false
+
+-- none of the newest entries above an older journal is a 421 on a connection that was opened for the origin by the
+-- alternative
+abbrev pub none_gives_up : Journal → Journal → Origin → AltKey → Bool
+none_gives_up before [] o key = true
+none_gives_up before (entry ∷ since) o key = not (of_happened (λ fact. gives_up (since ++ before) o fact key) entry) && none_gives_up before since o key
+
 -- an alternative is live (RFC 7838 2.2, 3, 3.1): a value was taken for the origin, and none since; it lists the
--- alternative; the age of its response and the seconds since are together below the alternative's `ma`; and the alternative
--- persists, or the network hasn't changed since
+-- alternative; the age of its response and the seconds since are together below the alternative's `ma`; since then no 421
+-- came for the origin on a connection that was opened for it by the alternative; and the alternative persists, or the
+-- network hasn't changed since
 pub record IsLive (journal : Journal) (o : Origin) (now : ℕ) (a : Alt) : Type 0 where
   pub since : Journal
   pub before : Journal
@@ -41,6 +53,7 @@ pub record IsLive (journal : Journal) (o : Origin) (now : ℕ) (a : Alt) : Type 
   pub newest : list_any (takes_for o) since ≡ false
   pub listed : Any (λ b. b ≡ a) (alternatives_of value)
   pub fresh : is_fresh (newest_moment before) (newest_age before) now a ≡ true
+  pub not_given_up : none_gives_up (Taken (action.Alternatives origin value) ∷ before) since o a.key ≡ true
   pub stays : (a.persist ≡ true) ⊎ (list_any changes_network since ≡ false)
 
 -- a fact ends an attempt for the origin by the route, and is no success
@@ -54,9 +67,6 @@ abbrev pub clears : Journal → Origin → Route → Fact → Bool
 clears older o r (fact.Opened attempt proto addr port names) = is_attempt_on older o r attempt && opens_well older (fact.Opened attempt proto addr port names)
 clears older o r fact.Network = true
 clears older o r _ = false
-
-abbrev pub of_happened : (Fact → Bool) → Entry → Bool
-of_happened test entry = option_map_or test (of_fact (λ fact. Some fact) entry) false
 
 -- how many of the newest entries, above an older journal, are failures of the origin's route
 abbrev pub failures_above : Journal → Journal → Origin → Route → ℕ

@@ -2,6 +2,7 @@ pub mod Journal
 pub mod Attempts
 pub mod Requests
 pub mod Connections
+pub mod Misdirection
 pub mod Alternatives
 pub mod Records
 pub mod Authority

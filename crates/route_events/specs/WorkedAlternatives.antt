@@ -9,7 +9,7 @@ use Rattle.altsvc_grammar.specs.declared.alt_svc.AltSvc.TheVariants as value
 use Rattle.route_events.specs.declared.fact.Fact.{Fact}
 use Rattle.route_events.specs.declared.fact.Fact.TheVariants.{Request, Opened, Failed, Response, Network}
 use Rattle.route_events.specs.declared.action.Action.{Action}
-use Rattle.route_events.specs.declared.action.Action.TheVariants.{OpenTo, SendOn, Refuse, Alternatives, Field}
+use Rattle.route_events.specs.declared.action.Action.TheVariants.{OpenTo, SendOn, Refuse, Retry, Alternatives, Field}
 use Rattle.route_events.specs.declared.route.Route.TheVariants.{Direct, Alt}
 use Rattle.route_events.specs.WorkedHistories.{site, plain_site, its_address, opened_with}
 
@@ -81,6 +81,19 @@ abbrev pub opened_again : List Action
 opened_again =
     first_sent ++ (taken (for_seconds 8443 86400 false ∷ []) ∷ SendOn 2 1 (Some 3) None ∷ OpenTo 2 site (Alt (at_port 8443))
     ∷ SendOn 3 1 (Some 5) None ∷ SendOn 4 1 (Some 7) None ∷ OpenTo 3 site (Alt (at_port 8443)) ∷ [])
+
+-- a server that an alternative led to turns a request away: the alternative is live no more, the value in the response
+-- isn't taken, and the request goes again where it may, with its old place before a newer one
+abbrev pub alternative_misdirected : List (ℕ × Fact)
+alternative_misdirected =
+    (0, Request 1 site) ∷ (1, opened_with 1 H2) ∷ (2, answered_with 1 0 (codes "h2=\":8443\"")) ∷ (3, Request 2 site)
+    ∷ (4, opened_at 2 8443) ∷ (5, Request 3 site) ∷ (6, Response 3 421 0 (Some (codes "h2=\":9443\""))) ∷ (7, Request 4 site) ∷ []
+
+abbrev pub sent_again : List Action
+sent_again =
+    first_sent ++ (taken (for_seconds 8443 86400 false ∷ []) ∷ SendOn 2 1 (Some 3) None ∷ OpenTo 2 site (Alt (at_port 8443))
+    ∷ SendOn 3 2 (Some 1) (Some (Name (codes "a.example"), 8443)) ∷ Retry 3 ∷ Field 3 11 0 ∷ SendOn 3 1 (Some 5) None
+    ∷ SendOn 4 1 (Some 7) None ∷ [])
 
 -- what is no value isn't taken, and nothing is taken for an origin of http
 abbrev pub no_value : List (ℕ × Fact)

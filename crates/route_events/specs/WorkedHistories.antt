@@ -11,7 +11,7 @@ use Rattle.origin_values.specs.declared.proto.Proto.TheVariants.{H2, Http11}
 use Rattle.route_events.specs.declared.fact.Fact.{Fact}
 use Rattle.route_events.specs.declared.fact.Fact.TheVariants.{Request, Opened, Failed, Closed, Response}
 use Rattle.route_events.specs.declared.action.Action.{Action}
-use Rattle.route_events.specs.declared.action.Action.TheVariants.{OpenTo, SendOn, Refuse, Lost}
+use Rattle.route_events.specs.declared.action.Action.TheVariants.{OpenTo, SendOn, Refuse, Lost, Retry}
 use Rattle.route_events.specs.declared.route.Route.TheVariants.{Direct}
 
 abbrev pub site : Origin
@@ -65,10 +65,10 @@ two_schemes = (0, Request 1 site) ∷ (1, opened_with 1 H2) ∷ (2, Request 2 pl
 abbrev pub one_each : List Action
 one_each = OpenTo 1 site Direct ∷ SendOn 1 1 (Some 1) None ∷ OpenTo 2 plain_site Direct ∷ SendOn 2 2 None None ∷ []
 
--- after a response of status 421 its request waits again (RFC 9110 15.5.20); no 421 takes authority away yet, so that it
--- is sent again on the same connection
+-- after a response of status 421 its request waits again, and not for the connection that turned it away (RFC 9110
+-- 15.5.20): it tried the direct route, and is refused; the next one opens a connection of its own
 abbrev pub misdirected_request : List (ℕ × Fact)
-misdirected_request = (0, Request 1 site) ∷ (1, opened_with 1 H2) ∷ (2, Response 1 421 0 None) ∷ []
+misdirected_request = (0, Request 1 site) ∷ (1, opened_with 1 H2) ∷ (2, Response 1 421 0 None) ∷ (3, Request 2 site) ∷ []
 
-abbrev pub sent_again : List Action
-sent_again = OpenTo 1 site Direct ∷ SendOn 1 1 (Some 1) None ∷ SendOn 1 1 (Some 3) None ∷ []
+abbrev pub turned_away : List Action
+turned_away = OpenTo 1 site Direct ∷ SendOn 1 1 (Some 1) None ∷ Retry 1 ∷ Refuse 1 ∷ OpenTo 2 site Direct ∷ []

@@ -29,6 +29,10 @@ pub enum Action {
     Lost {
         request: u32,
     },
+    /// A request was answered by a server that isn't the origin's, by status 421 (RFC 9110 15.5.20): it waits again.
+    Retry {
+        request: u32,
+    },
     /// A value of Alt-Svc was taken: from now on it is all that is known of the origin's alternatives (RFC 7838 3).
     Alternatives {
         origin: Origin,
@@ -75,6 +79,7 @@ impl Duplicate for Action {
             }),
             Action::Refuse { request } => Ok(Action::Refuse { request: *request }),
             Action::Lost { request } => Ok(Action::Lost { request: *request }),
+            Action::Retry { request } => Ok(Action::Retry { request: *request }),
             Action::Alternatives { origin, value } => Ok(Action::Alternatives {
                 origin: origin.copy(alloc)?,
                 value: value.copy(alloc)?,

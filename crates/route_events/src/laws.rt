@@ -10,8 +10,7 @@ ghost use Rattle.route_events.specs.declared.route.Route.{Route as RouteValue};
 ghost use Rattle.route_events.specs.Journal.{Journal, Happened, Taken, newest_moment};
 ghost use Rattle.route_events.specs.Step.{step, run, IsRun, settled};
 ghost use Rattle.route_events.specs.Requests.{OutOn, standing};
-ghost use Rattle.route_events.specs.Connections.{outstanding};
-ghost use Rattle.route_events.specs.Advertisements.{is_one_of};
+ghost use Rattle.route_events.specs.Connections.{is_one_of, outstanding};
 ghost use Rattle.route_events.specs.Alternatives.{live};
 ghost use Rattle.route_events.specs.Records.{ConnectionRecord};
 ghost use Rattle.route_events.specs.Authority.{authorises, is_candidate};
@@ -56,7 +55,8 @@ pub fn each_action()
 {}
 
 /// In the words of RFC 7838 (2.2, 3, 3.1), of every journal: an alternative is live where the value that was taken last for
-/// the origin lists it, it is still fresh, and it persists or the network hasn't changed since.
+/// the origin lists it, it is still fresh, no 421 came since on a connection that was opened for the origin by it (RFC 9110
+/// 15.5.20), and it persists or the network hasn't changed since.
 pub fn live_in_words()
     ensures { (journal : Journal) (o : OriginValue) (now : ℕ) (a : Alternative) → Any (λ b. b ≡ a) (live journal o now) ↔ IsLive journal o now a }
 {}

@@ -23,6 +23,10 @@ pub returns-clause-failed : goal.returns-clause-failed
 unfolding value_taken percent_decode
 returns-clause-failed c = refl
 
+pub returns-clause-misdirected : goal.returns-clause-misdirected
+unfolding value_taken percent_decode
+returns-clause-misdirected c = refl
+
 pub returns-clause-no_value : goal.returns-clause-no_value
 unfolding value_taken percent_decode
 returns-clause-no_value c = refl
