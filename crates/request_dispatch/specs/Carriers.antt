@@ -11,7 +11,7 @@ use Rattle.route_choice.specs.declared.candidate.Candidate.{Candidate}
 use Rattle.route_events.specs.Records.{is_occupied}
 use Rattle.route_events.specs.Authority.{rests_on, authorises}
 use Rattle.route_events.specs.Dispatch.{is_by_alternative}
-use Rattle.route_events.specs.Advertisements.{is_one_of}
+use Rattle.route_events.specs.Connections.{is_one_of}
 use Rattle.request_dispatch.specs.declared.open_connection.OpenConnection.{OpenConnection}
 use Rattle.request_dispatch.specs.ConnectionTable.{said, connection_among}
 use Rattle.request_dispatch.specs.Looks.{reach_at}

@@ -4,7 +4,7 @@ use Rattle.origin_values.specs.Equality.{origin_eq}
 use Rattle.origin_values.specs.declared.origin.Origin.{Origin}
 use Rattle.route_events.specs.declared.request.Request.{Request}
 use Rattle.route_events.specs.declared.route.Route.{Route}
-use Rattle.route_events.specs.Advertisements.{is_one_of}
+use Rattle.route_events.specs.Connections.{is_one_of}
 use Rattle.request_dispatch.specs.declared.waiting.Waiting.{Waiting}
 use Rattle.request_dispatch.specs.declared.outstanding.Outstanding.{Outstanding}
 

@@ -1,4 +1,4 @@
-ghost use Rattle.std.specs.Prelude.{◌≡◌};
+ghost use Rattle.std.specs.Prelude.{◌≡◌, if◌then◌else◌};
 ghost use Rattle.coalescing.specs.Covers.{covers};
 ghost use Rattle.route_events.specs.Alternatives.{is_listed};
 ghost use Rattle.route_events.specs.Authority.{is_https, is_tls, is_among, is_h2, is_success, gives, rests_on, may_coalesce, authorises_https, authorises_http, authorises};
@@ -6,7 +6,7 @@ ghost use Rattle.request_dispatch.specs.Successes.{succeeds};
 ghost use Rattle.request_dispatch.specs.ConnectionTable.{said};
 ghost use Rattle.request_dispatch.specs.Looks.{no_address, reach_at};
 
-use crate::open_connection::OpenConnection;
+use crate::open_connection::{OpenConnection, is_misdirected};
 use altsvc_grammar::{Alt, AltKey, same_key};
 use coalescing::{CertNames, covers};
 use origin_values::{Origin, Proto, Protos, Scheme, same_origin};
@@ -103,17 +103,24 @@ fn authorises_http(connection: &OpenConnection, origin: &Origin) -> bool
     !is_secure(connection.made.origin.scheme) && rests_on(connection, origin)
 }
 
-/// Whether an open connection is authoritative for an origin that it reaches so (RFC 9110 4.3; RFC 9113 9.1.1): for an
-/// https origin one of TLS whose certificate covers the host, and which has a basis for the origin or stands at its
-/// address; for an http origin one without TLS that has a basis. It takes no memory.
-pub fn authorises(connection: &OpenConnection, origin: &Origin, reach: Reach) -> bool
-    ensures { result ≡ authorises (said connection.now) origin.now reach }
+fn serves(connection: &OpenConnection, origin: &Origin, reach: Reach) -> bool
+    ensures { result ≡ (if is_https origin.now.scheme then authorises_https (said connection.now) origin.now reach else authorises_http (said connection.now) origin.now) }
 {
     if is_secure(origin.scheme) {
         authorises_https(connection, origin, reach)
     } else {
         authorises_http(connection, origin)
     }
+}
+
+/// Whether an open connection is authoritative for an origin that it reaches so (RFC 9110 4.3; RFC 9113 9.1.1): for an
+/// https origin one of TLS whose certificate covers the host, and which has a basis for the origin or stands at its
+/// address; for an http origin one without TLS that has a basis; and never where a 421 took the origin away (RFC 9110
+/// 15.5.20). It takes no memory.
+pub fn authorises(connection: &OpenConnection, origin: &Origin, reach: Reach) -> bool
+    ensures { result ≡ authorises (said connection.now) origin.now reach }
+{
+    !is_misdirected(connection, origin) && serves(connection, origin, reach)
 }
 
 /// How a connection reaches an origin. No DNS answer is read yet, so no address is known as an origin's. It takes no

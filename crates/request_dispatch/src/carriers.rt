@@ -1,7 +1,7 @@
 ghost use Rattle.std.specs.Prelude.{◌≡◌, ◌∷◌, ◌++◌, ◌&&◌, [], OnOk, IfOk};
 ghost use Rattle.std.specs.List.{list_any};
 ghost use Rattle.std.specs.Option.{option_copied, option_and_then};
-ghost use Rattle.route_events.specs.Advertisements.{is_one_of};
+ghost use Rattle.route_events.specs.Connections.{is_one_of};
 ghost use Rattle.request_dispatch.specs.ConnectionTable.{connection_among};
 ghost use Rattle.request_dispatch.specs.Looks.{no_address};
 ghost use Rattle.request_dispatch.specs.Carriers.{is_carrier, is_free, candidate_of, candidates, is_answered_by_authority};

@@ -1,12 +1,13 @@
 ghost use Rattle.std.specs.Prelude.{◌≡◌, ◌<◌, ◌^◌, ◌++◌, ◌∷◌, [], map, OnOk, IfOk};
 ghost use Rattle.std.specs.List.{list_any};
 ghost use Rattle.std.specs.Option.{option_copied, option_and_then};
-ghost use Rattle.request_dispatch.specs.ConnectionTable.{connection_among, other_connections, begun, sent_on, without_request, rebound, is_opened_by, most_sends};
+ghost use Rattle.request_dispatch.specs.ConnectionTable.{connection_among, other_connections, begun, sent_on, without_request, misdirected_by, carrying, rebound, is_opened_by, most_sends};
 ghost use Rattle.request_dispatch.specs.Looks.{no_address};
 ghost use Rattle.request_dispatch.specs.Carriers.{is_carrier, candidates, best_connection, is_answered_by_authority};
 
 use crate::carriers::{candidates, is_answered_by_authority, is_any_carrier};
-use crate::open_connection::{OpenConnection, forget_request, note_sends, rebind_all};
+use crate::open_connection::{OpenConnection, forget_request, misdirect_all, note_sends, rebind_all};
+use crate::requests::is_one_of;
 use alt_base::{ListOf, NoMemory};
 use altsvc_grammar::Alt;
 use origin_values::{Origin, same_origin};
@@ -48,6 +49,7 @@ impl Connections {
         self.open.push(OpenConnection {
             made,
             bound,
+            misdirected: ListOf::new(alloc),
             outstanding: ListOf::new(alloc),
             sends: 0,
         })?;
@@ -81,6 +83,26 @@ impl Connections {
         ensures { self.new ≡ map (without_request request) self.old }
     {
         forget_request(alloc, &mut self.open, request);
+    }
+
+    /// A 421 came for a request of an origin (RFC 9110 15.5.20): the connection on which it is outstanding is misdirected for
+    /// the origin. NoMemory comes only where memory isn't found.
+    pub fn misdirect(
+        &mut self,
+        alloc: Global,
+        request: u32,
+        origin: &Origin,
+    ) -> Result<(), NoMemory>
+        ensures { OnOk result (self.new ≡ map (misdirected_by request origin.now) self.old) }
+    {
+        misdirect_all(alloc, &mut self.open, request, origin)
+    }
+
+    /// The connection on which a request is outstanding; None exactly where there is none. It takes no memory.
+    pub fn carrying(&self, request: u32) -> Option<&OpenConnection>
+        ensures { option_copied result ≡ carrying self.now request }
+    {
+        carrying(self.open.as_slice(), request)
     }
 
     /// A value of Alt-Svc was taken for an origin: its connections that were opened by alternatives that the value doesn't
@@ -138,6 +160,14 @@ fn connection_among(connections: &[OpenConnection], number: u64) -> Option<&Open
     connections
         .iter()
         .find(|connection| connection.made.number == number)
+}
+
+fn carrying(connections: &[OpenConnection], request: u32) -> Option<&OpenConnection>
+    ensures { option_copied result ≡ carrying connections.now request }
+{
+    connections
+        .iter()
+        .find(|connection| is_one_of(request, connection.outstanding.as_slice()))
 }
 
 // The one of a number, if there is a number.

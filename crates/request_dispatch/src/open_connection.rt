@@ -1,21 +1,24 @@
 ghost use Rattle.std.specs.Prelude.{◌≡◌, ◌<◌, ◌≤◌, ◌^◌, map, OnOk};
 ghost use Rattle.route_events.specs.Connections.{without};
-ghost use Rattle.request_dispatch.specs.ConnectionTable.{sent_on, without_request, rebound, most_sends};
+ghost use Rattle.request_dispatch.specs.ConnectionTable.{is_among, with_origin, sent_on, without_request, misdirected_by, rebound, most_sends};
 
 use crate::authority::gives;
-use alt_base::{ListOf, NoMemory};
+use crate::requests::is_one_of;
+use alt_base::{Duplicate, ListOf, NoMemory};
 use altsvc_grammar::Alt;
 use origin_values::{Origin, same_origin};
 use route_events::Connection;
 use std::alloc::Global;
 use std::mem;
 
-/// A connection that is open: as it was made, whether it has a basis for the origin that it was opened for, the requests
-/// outstanding on it in the order of their sends, and the number of its sends.
+/// A connection that is open: as it was made, whether it has a basis for the origin that it was opened for, the different
+/// origins for which it is misdirected (RFC 9110 15.5.20), the requests outstanding on it in the order of their sends, and
+/// the number of its sends.
 #[derive(Debug, Drop)]
 pub struct OpenConnection {
     pub made: Connection,
     pub bound: bool,
+    pub misdirected: ListOf<Origin>,
     pub outstanding: ListOf<u32>,
     pub sends: u32,
 }
@@ -69,6 +72,61 @@ pub(crate) fn forget_request(alloc: Global, connections: &mut [OpenConnection], 
     for connection in connections.iter_mut() {
         forget_on(alloc, connection, request);
     }
+}
+
+fn is_among(origins: &[Origin], origin: &Origin) -> bool
+    ensures { result ≡ is_among origins.now origin.now }
+{
+    origins.iter().any(|listed| same_origin(listed, origin))
+}
+
+/// Whether the connection is misdirected for an origin.
+pub(crate) fn is_misdirected(connection: &OpenConnection, origin: &Origin) -> bool
+    ensures { result ≡ is_among connection.now.misdirected origin.now }
+{
+    is_among(connection.misdirected.as_slice(), origin)
+}
+
+fn add_origin(
+    alloc: Global,
+    origins: &mut ListOf<Origin>,
+    origin: &Origin,
+) -> Result<(), NoMemory>
+    ensures { OnOk result (origins.new ≡ with_origin origin.now origins.old) }
+{
+    if is_among(origins.as_slice(), origin) {
+        return Ok(());
+    }
+    origins.push(origin.copy(alloc)?)
+}
+
+fn misdirect_one(
+    alloc: Global,
+    connection: &mut OpenConnection,
+    request: u32,
+    origin: &Origin,
+) -> Result<(), NoMemory>
+    ensures { OnOk result (connection.new ≡ misdirected_by request origin.now connection.old) }
+{
+    if is_one_of(request, connection.outstanding.as_slice()) {
+        add_origin(alloc, &mut connection.misdirected, origin)?;
+    }
+    Ok(())
+}
+
+/// A 421 came for a request of an origin: the connection that it is outstanding on is misdirected for the origin.
+pub(crate) fn misdirect_all(
+    alloc: Global,
+    connections: &mut [OpenConnection],
+    request: u32,
+    origin: &Origin,
+) -> Result<(), NoMemory>
+    ensures { OnOk result (connections.new ≡ map (misdirected_by request origin.now) connections.old) }
+{
+    for connection in connections.iter_mut() {
+        misdirect_one(alloc, connection, request, origin)?;
+    }
+    Ok(())
 }
 
 fn rebind_one(connection: &mut OpenConnection, origin: &Origin, alts: &[Alt])

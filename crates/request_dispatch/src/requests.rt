@@ -1,7 +1,7 @@
 ghost use Rattle.std.specs.Prelude.{◌≡◌, [], OnOk, map, nat_lt};
 ghost use Rattle.std.specs.Option.{option_copied};
 ghost use Rattle.std.specs.List.{position_from};
-ghost use Rattle.route_events.specs.Advertisements.{is_one_of};
+ghost use Rattle.route_events.specs.Connections.{is_one_of};
 ghost use Rattle.request_dispatch.specs.RequestTable.{request_among, without_all, arrived, tried_more, tried_after, out_tried_after, after_end, lost, placed, waits_again, sent_back};
 ghost use Rattle.request_dispatch.specs.StepStates.{still_waiting, sent_request};
 

@@ -10,7 +10,7 @@ use Rattle.route_events.specs.declared.fact.Fact.{Fact}
 use Rattle.route_events.specs.declared.fact.Fact.TheVariants.{Request, Opened, Failed, Closed, Response, Network, Tick}
 use Rattle.route_events.specs.declared.refusal.StepRefusal.TheVariants.{Spent, TimeBack}
 use Rattle.route_events.specs.declared.action.Action.{Action}
-use Rattle.route_events.specs.declared.action.Action.TheVariants.{OpenTo, SendOn, Lost, Alternatives, Field}
+use Rattle.route_events.specs.declared.action.Action.TheVariants.{OpenTo, SendOn, Lost, Retry, Alternatives, Field}
 use Rattle.route_events.specs.declared.action.Action.TheVariants as action
 use Rattle.altsvc_grammar.specs.declared.alt.Alt.{Alt}
 use Rattle.origin_values.specs.declared.origin.Origin.{Origin}
@@ -22,9 +22,10 @@ use Rattle.request_dispatch.specs.declared.tables.Tables.{Tables}
 use Rattle.request_dispatch.specs.declared.waiting.Waiting.{Waiting}
 use Rattle.request_dispatch.specs.AttemptTable.{attempt_among}
 use Rattle.request_dispatch.specs.RequestTable.{RequestTable, request_among, tried_after, placed, waits_again, sent_back, lost}
-use Rattle.request_dispatch.specs.ConnectionTable.{most_sends, without_request, rebound}
+use Rattle.route_events.specs.Connections.{is_one_of}
+use Rattle.request_dispatch.specs.ConnectionTable.{with_origin, most_sends, without_request, misdirected_by, rebound}
 use Rattle.router_core.specs.Reasons.{reason_of, reason_of_fact}
-use Rattle.router_core.specs.Effects.{ended, opened, made_of, begun_of, rebound_by, answered_so, with_effect}
+use Rattle.router_core.specs.Effects.{ended, opened, made_of, begun_of, misdirected_for, rebound_by, answered_so, with_effect}
 
 -- a fact raises them by one request at most
 
@@ -80,6 +81,7 @@ rebound_kept (OpenTo number origin route ∷ as') cs = refl
 rebound_kept (SendOn request conn stream used ∷ as') cs = refl
 rebound_kept (action.Refuse request ∷ as') cs = refl
 rebound_kept (Lost request ∷ as') cs = refl
+rebound_kept (Retry request ∷ as') cs = refl
 rebound_kept (Field request reason place ∷ as') cs = refl
 
 -- one more waits, where one is sent back
@@ -99,11 +101,31 @@ answer_length : (b : Bool) (request : ℕ) (t : RequestTable) → length (cond b
 answer_length true request t = again_length (request_among t.outstanding request) t.waiting
 answer_length false request t = omega arith
 
-answered_small : (s : StepState) (request status : ℕ) (as' : List Action) → IsSmall s (answered_so s request status as')
-answered_small s request status as' = record {
+misdirected_kept : (request status : ℕ) (found : Option Outstanding) (cs : List OpenConnection) → most_sends (misdirected_for request status found cs) ≡ most_sends cs
+misdirected_kept request status None cs = refl
+misdirected_kept request status (Some x) cs = by_status (nat_eq status 421)
+  where
+    same : (c : OpenConnection) → (misdirected_by request x.request.origin c).sends ≡ c.sends
+    same c = by_one (is_one_of request c.outstanding)
+      where
+        by_one : (b : Bool) → (cond b (record { made = c.made; bound = c.bound; misdirected = with_origin x.request.origin c.misdirected; outstanding = c.outstanding; sends = c.sends }) c).sends ≡ c.sends
+        by_one true = refl
+        by_one false = refl
+
+    by_status : (b : Bool) → most_sends (cond b (map (misdirected_by request x.request.origin) cs) cs) ≡ most_sends cs
+    by_status true = most_sends_kept (misdirected_by request x.request.origin) cs same
+    by_status false = refl
+
+answered_small : (s : StepState) (request status : ℕ) (found : Option Outstanding) (as' : List Action) → IsSmall s (answered_so s request status found as')
+answered_small s request status found as' = record {
   opened = refl;
   waiting = answer_length (nat_eq status 421) request s.tables.requests;
-  sends = omega (arith, rebound_kept as' (map (without_request request) s.tables.connections), most_sends_kept (without_request request) s.tables.connections (λ c. refl));
+  sends = omega (
+    arith,
+    rebound_kept as' (map (without_request request) (misdirected_for request status found s.tables.connections)),
+    most_sends_kept (without_request request) (misdirected_for request status found s.tables.connections) (λ c. refl),
+    misdirected_kept request status found s.tables.connections,
+  );
 }
 
 pub effect_small : (live : Origin → List Alt) (s : StepState) (f : Fact) → IsSmall s (with_effect live s f)
@@ -111,7 +133,7 @@ effect_small live s (Request number origin) = record { opened = refl; waiting = 
 effect_small live s (Opened attempt proto addr port names) = opened_small live s (attempt_among s.tables.attempts.pending attempt) proto addr port names
 effect_small live s (Failed attempt) = ended_small s (attempt_among s.tables.attempts.pending attempt)
 effect_small live s (Closed conn) = record { opened = refl; waiting = omega arith; sends = most_sends_filter (λ (c : OpenConnection). not (nat_eq conn c.made.number)) s.tables.connections }
-effect_small live s (Response request status age altsvc) = answered_small s request status _
+effect_small live s (Response request status age altsvc) = answered_small s request status _ _
 effect_small live s Network = record { opened = refl; waiting = omega arith; sends = omega arith }
 effect_small live s Tick = record { opened = refl; waiting = omega arith; sends = omega arith }
 

@@ -24,6 +24,7 @@ use Rattle.route_events.specs.Requests.{Standing, Waits, OutOn, Over, requests, 
 use Rattle.route_events.specs.Dispatch.{or_else}
 use Rattle.route_events.specs.Connections.{connections, closes, is_open, open_connections, is_open_number, outstanding, send_count, without}
 use Rattle.altsvc_grammar.specs.declared.alt.Alt.{Alt}
+use Rattle.route_events.specs.Misdirection.{is_misdirected}
 use Rattle.route_events.specs.Alternatives.{live}
 use Rattle.route_events.specs.Authority.{route_eq, is_success, gives, is_upheld}
 use Rattle.route_events.specs.Routes.{was_tried}
@@ -178,7 +179,7 @@ hold_ended t j now m requests hold = record {
 begun_is : (live_now : Origin → List Alt) (j : Journal) (now m : ℕ) (c : Connection) (p : Proto) (d : Addr) (port : ℕ) (names : List CertName) → c.number ≡ m → Sound j → has_ended j m ≡ false → ((o : Origin) → live_now o ≡ live j o now) →
     said (begun_of live_now c) ≡ record_of (Happened now (fact.Opened m p d port names) true ∷ j) c
 begun_is live_now j now m c p d port names numbered sound fresh sees =
-    λ i. record { made = c; bound = is_success c && bound_now i; gated = false; holds = (record_of j c).holds; misdirected = λ o. false; outstanding = none i; sends = never i }
+    λ i. record { made = c; bound = is_success c && bound_now i; gated = false; holds = (record_of j c).holds; misdirected = λ o. not (sym own i) && is_misdirected j c o; outstanding = none i; sends = never i }
   where
     own : nat_eq m c.number ≡ true
     own = ap (λ n. nat_eq m n) numbered ∙ eq_self m
@@ -205,7 +206,7 @@ others_kept j now m p d port names sound fresh =
         by_test true e = absurd (true≢false (sym (sound.ended x found) ∙ ap (has_ended j) (sym (true_eq m x.number e)) ∙ fresh))
 
     same : (x : Connection) → nat_eq m x.number ≡ false → record_of j x ≡ record_of (Happened now (fact.Opened m p d port names) true ∷ j) x
-    same x e = λ i. record { made = x; bound = is_success x && cond (sym e i) (gives (live j x.origin now) x.route) (is_upheld j x); gated = false; holds = (record_of j x).holds; misdirected = λ o. false; outstanding = outstanding j x.number; sends = send_count j x.number }
+    same x e = λ i. record { made = x; bound = is_success x && cond (sym e i) (gives (live j x.origin now) x.route) (is_upheld j x); gated = false; holds = (record_of j x).holds; misdirected = λ o. not (sym e i) && is_misdirected j x o; outstanding = outstanding j x.number; sends = send_count j x.number }
 
 pub hold_opened : (live_now : Origin → List Alt) (t : Tables) (j : Journal) (now m : ℕ) (a : Attempt) (p : Proto) (d : Addr) (port : ℕ) (names : List CertName) (requests : RequestTable) → Sound j → ((o : Origin) → live_now o ≡ live j o now) → pending_attempt j m ≡ Some a → a.number ≡ m → has_ended j m ≡ false → Hold t j →
     Hold (record { attempts = without_attempt a.number t.attempts; requests = requests; connections = t.connections ++ begun_of live_now (made_of a p d port names) ∷ [] }) (Happened now (fact.Opened m p d port names) true ∷ j)
@@ -272,7 +273,7 @@ hold_lost t j q nowhere hold = record {
   opened = hold.opened;
   pending = hold.pending;
   connections = hold.connections ∙ map_same_in (record_of j) (record_of (Taken (Lost q) ∷ j)) (open_connections j)
-      (λ x found. λ i. record { made = x; bound = is_success x && is_upheld j x; gated = false; holds = (record_of j x).holds; misdirected = λ o. false; outstanding = sym (without_none q (outstanding j x.number) (nowhere x found)) i; sends = send_count j x.number });
+      (λ x found. λ i. record { made = x; bound = is_success x && is_upheld j x; gated = false; holds = (record_of j x).holds; misdirected = is_misdirected j x; outstanding = sym (without_none q (outstanding j x.number) (nowhere x found)) i; sends = send_count j x.number });
 }
 
 lost_waits : (q n : ℕ) (w : Option Standing) → (nat_eq q n ≡ true → waits w ≡ false) → waits (option_map_or Some (cond (nat_eq q n) (Some Over) None) w) ≡ waits w

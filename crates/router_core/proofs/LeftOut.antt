@@ -5,7 +5,7 @@ use Rattle.std.specs.Option.{option_map_or}
 use Rattle.route_events.specs.declared.request.Request.{Request}
 use Rattle.route_events.specs.Journal.{Journal}
 use Rattle.route_events.specs.Requests.{Standing, requests, newest_number, standing, is_out}
-use Rattle.route_events.specs.Advertisements.{is_one_of}
+use Rattle.route_events.specs.Connections.{is_one_of}
 use Rattle.route_events.proofs.Lists.{filter_same, filter_twice, find_in}
 use Rattle.route_events.proofs.Sound.{Sound}
 use Rattle.request_dispatch.specs.declared.outstanding.Outstanding.{Outstanding}

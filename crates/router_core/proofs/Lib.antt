@@ -6,6 +6,7 @@ mod LeftOut
 mod Effects
 mod Returning
 mod Answering
+mod GivingUp
 mod Noting
 mod Bounds
 mod Steps

@@ -1,19 +1,21 @@
 -- What a step notes of failures and alternatives is what the journal says from then on.
-use Rattle.std.proofs.Common.{◌≡◌, ℕ, ◌+◌, Bool, true, false, cond, ◌&&◌, List, [], ◌∷◌, map, filter, Option, Some, None, refl, ap, sym, ◌∙◌, arith, min}
+use Rattle.std.proofs.Common.{◌≡◌, ℕ, ◌+◌, Bool, true, false, cond, not, ◌&&◌, List, [], ◌∷◌, map, filter, Option, Some, None, refl, ap, sym, ◌∙◌, arith, min}
 use Rattle.coalescing.specs.declared.cert_name.CertName.{CertName}
 use Rattle.origin_values.specs.Equality.{origin_eq}
 use Rattle.origin_values.specs.declared.address.Addr.{Addr}
 use Rattle.origin_values.specs.declared.origin.Origin.{Origin}
 use Rattle.origin_values.specs.declared.proto.Proto.{Proto}
+use Rattle.altsvc_grammar.specs.Keys.{key_eq}
+use Rattle.altsvc_grammar.specs.declared.alt_key.AltKey.{AltKey}
 use Rattle.altsvc_grammar.specs.declared.alt.Alt.{Alt}
 use Rattle.network_cache.specs.declared.kept.Kept.{Kept}
-use Rattle.network_cache.specs.Freshness.{taken_at, is_fresh, persists}
+use Rattle.network_cache.specs.Freshness.{taken_at, is_fresh, persists, has_other_key}
 use Rattle.network_cache.proofs.Origins.{turned, turned_not}
 use Rattle.route_choice.specs.Capped.{capped}
 use Rattle.route_events.specs.declared.fact.Fact.{Fact}
 use Rattle.route_events.specs.declared.fact.Fact.TheVariants as fact
 use Rattle.route_events.specs.declared.action.Action.{Action}
-use Rattle.route_events.specs.declared.action.Action.TheVariants.{Lost, Alternatives, Field}
+use Rattle.route_events.specs.declared.action.Action.TheVariants.{Lost, Retry, Alternatives, Field}
 use Rattle.route_events.specs.declared.route.Route.{Route}
 use Rattle.route_events.specs.declared.attempt.Attempt.{Attempt}
 use Rattle.route_events.specs.Journal.{Happened, Taken, Journal}
@@ -21,16 +23,20 @@ use Rattle.route_events.specs.Attempts.{pending_attempt}
 use Rattle.route_events.specs.Alternatives.{alternatives_of, age_in, live}
 use Rattle.route_events.specs.Alternatives as journal
 use Rattle.route_events.specs.Backoff.{Failures, no_failures, failed_at, failures, failures_after, is_on}
-use Rattle.route_events.specs.Connections.{outstanding}
+use Rattle.route_events.specs.Connections.{outstanding, answered_in}
+use Rattle.route_events.specs.Requests.{standing, is_out}
+use Rattle.route_events.specs.Misdirection.{gives_up}
 use Rattle.route_events.specs.Step.{with_actions, effects}
 use Rattle.route_events.proofs.Lists.{filter_same, filter_twice}
+use Rattle.route_events.proofs.Sound.{Sound}
 use Rattle.request_dispatch.specs.declared.tables.Tables.{Tables}
 use Rattle.request_dispatch.specs.AttemptTable.{attempt_among}
 use Rattle.request_dispatch.specs.Successes.{succeeds}
 use Rattle.request_dispatch.proofs.Listing.{filter_map}
-use Rattle.router_core.specs.Holds.{Hold}
-use Rattle.router_core.specs.Notes.{failure_noted, opening_noted, failures_noted, value_noted, kept_after}
+use Rattle.router_core.specs.Holds.{Hold, AreOut}
+use Rattle.router_core.specs.Notes.{failure_noted, opening_noted, failures_noted, given_up, spared, value_noted, kept_after}
 use Rattle.router_core.proofs.Answering.{IsAnswer, answer_is}
+use Rattle.router_core.proofs.GivingUp.{is_given, given_up_is}
 
 -- failures
 
@@ -88,13 +94,14 @@ taken_fresh now age at alts = ap (map (λ (k : Kept). k.alt)) (filter_map (is_fr
     back [] = refl
     back (x ∷ xs) = ap (λ ys. x ∷ ys) (back xs)
 
-persistent_fresh : (at : ℕ) (ks : List Kept) → fresh_alts at (filter persists ks) ≡ filter (λ (a : Alt). a.persist) (fresh_alts at ks)
-persistent_fresh at ks =
+-- a test of the alternatives before and behind the test of freshness
+tested_fresh : (p : Alt → Bool) (at : ℕ) (ks : List Kept) → fresh_alts at (filter (λ (k : Kept). p k.alt) ks) ≡ filter p (fresh_alts at ks)
+tested_fresh p at ks =
     ap (map (λ (k : Kept). k.alt))
-    (filter_twice (is_fresh at) persists ks
-    ∙ filter_same (λ k. persists k && is_fresh at k) (λ k. is_fresh at k && persists k) ks (λ k. turned_and (persists k) (is_fresh at k))
-    ∙ sym (filter_twice persists (is_fresh at) ks))
-    ∙ sym (filter_map (λ (a : Alt). a.persist) (λ (k : Kept). k.alt) (filter (is_fresh at) ks))
+    (filter_twice (is_fresh at) (λ (k : Kept). p k.alt) ks
+    ∙ filter_same (λ k. p k.alt && is_fresh at k) (λ k. is_fresh at k && p k.alt) ks (λ k. turned_and (p k.alt) (is_fresh at k))
+    ∙ sym (filter_twice (λ (k : Kept). p k.alt) (is_fresh at) ks))
+    ∙ sym (filter_map p (λ (k : Kept). k.alt) (filter (is_fresh at) ks))
   where
     turned_and : (a b : Bool) → (a && b) ≡ (b && a)
     turned_and true true = refl
@@ -102,32 +109,60 @@ persistent_fresh at ks =
     turned_and false true = refl
     turned_and false false = refl
 
+-- what is kept without an alternative that is given up
+spared_are : (g : Option (Origin × AltKey)) (o : Origin) (ks : List Kept) → spared g o ks ≡ filter (λ (k : Kept). not (is_given g o k.alt.key)) ks
+spared_are None o ks = sym (all_pass ks)
+  where
+    all_pass : (xs : List Kept) → filter (λ (k : Kept). true) xs ≡ xs
+    all_pass [] = refl
+    all_pass (x ∷ xs) = ap (λ ys. x ∷ ys) (all_pass xs)
+spared_are (Some g) o ks = by_test (origin_eq o g.0)
+  where
+    all_pass : (xs : List Kept) → filter (λ (k : Kept). true) xs ≡ xs
+    all_pass [] = refl
+    all_pass (x ∷ xs) = ap (λ ys. x ∷ ys) (all_pass xs)
+
+    by_test : (b : Bool) → cond b (filter (has_other_key g.1) ks) ks ≡ filter (λ (k : Kept). not (b && key_eq k.alt.key g.1)) ks
+    by_test true = refl
+    by_test false = sym (all_pass ks)
+
 lost_live : (j : Journal) (qs : List ℕ) (o : Origin) (at : ℕ) → live (with_actions j (map Lost qs)) o at ≡ live j o at
 lost_live j [] o at = refl
 lost_live j (q ∷ qs) o at = lost_live (Taken (Lost q) ∷ j) qs o at
 
-answered_live : (j : Journal) (now q status age : ℕ) (altsvc : Option (List ℕ)) (o : Origin) (at : ℕ) (ks : List Kept) (as' : List Action) → IsAnswer as' → fresh_alts at ks ≡ live j o at →
+answered_live : (j : Journal) (now q status age : ℕ) (altsvc : Option (List ℕ)) (o : Origin) (at : ℕ) (ks : List Kept) (as' : List Action) → IsAnswer as' → fresh_alts at ks ≡ live (Happened now (fact.Response q status age altsvc) true ∷ j) o at →
     fresh_alts at (value_noted now age as' o ks) ≡ live (with_actions (Happened now (fact.Response q status age altsvc) true ∷ j) as') o at
 answered_live j now q status age altsvc o at ks [] h e = e
 answered_live j now q status age altsvc o at ks (Field r reason place ∷ []) h e = e
 answered_live j now q status age altsvc o at ks (Alternatives p value ∷ []) h e = by_test (origin_eq p o) refl
   where
-    by_test : (b : Bool) → origin_eq p o ≡ b → fresh_alts at (cond (origin_eq o p) (map (taken_at now age) (alternatives_of value)) ks) ≡ cond b (filter (journal.is_fresh now age at) (alternatives_of value)) (live j o at)
+    by_test : (b : Bool) → origin_eq p o ≡ b → fresh_alts at (cond (origin_eq o p) (map (taken_at now age) (alternatives_of value)) ks) ≡ cond b (filter (journal.is_fresh now age at) (alternatives_of value)) (live (Happened now (fact.Response q status age altsvc) true ∷ j) o at)
     by_test true is = rw (turned p o is) (taken_fresh now age at (alternatives_of value))
     by_test false is = rw (turned_not p o is) e
+answered_live j now q status age altsvc o at ks (Retry r ∷ []) h e = e
+answered_live j now q status age altsvc o at ks (Retry r ∷ Field n reason place ∷ []) h e = e
 answered_live j now q status age altsvc o at ks _ h e = absurd h
 
 lost_noted : (now age : ℕ) (qs : List ℕ) (o : Origin) (ks : List Kept) → value_noted now age (map Lost qs) o ks ≡ ks
 lost_noted now age [] o ks = refl
 lost_noted now age (q ∷ qs) o ks = refl
 
-pub live_noted : (j : Journal) (now : ℕ) (f : Fact) (o : Origin) (at : ℕ) (ks : List Kept) → fresh_alts at ks ≡ live j o at →
-    fresh_alts at (value_noted now (age_in f) (effects j now f) o (kept_after f ks)) ≡ live (with_actions (Happened now f true ∷ j) (effects j now f)) o at
-live_noted j now (fact.Request n p) o at ks e = e
-live_noted j now (fact.Opened m p d port names) o at ks e = e
-live_noted j now (fact.Failed m) o at ks e = e
-live_noted j now (fact.Closed c) o at ks e =
+pub live_noted : (t : Tables) (j : Journal) (now : ℕ) (f : Fact) (o : Origin) (at : ℕ) (ks : List Kept) → Sound j → Hold t j → AreOut j t.requests.outstanding →
+    ((q : ℕ) → answered_in f ≡ Some q → is_out (standing j q) ≡ true) → fresh_alts at ks ≡ live j o at →
+    fresh_alts at (value_noted now (age_in f) (effects j now f) o (spared (given_up t f) o (kept_after f ks))) ≡ live (with_actions (Happened now f true ∷ j) (effects j now f)) o at
+live_noted t j now (fact.Request n p) o at ks sound hold outs out e = e
+live_noted t j now (fact.Opened m p d port names) o at ks sound hold outs out e = e
+live_noted t j now (fact.Failed m) o at ks sound hold outs out e = e
+live_noted t j now (fact.Closed c) o at ks sound hold outs out e =
     ap (fresh_alts at) (lost_noted now 0 (outstanding j c) o ks) ∙ e ∙ sym (lost_live (Happened now (fact.Closed c) true ∷ j) (outstanding j c) o at)
-live_noted j now (fact.Response q status age altsvc) o at ks e = answered_live j now q status age altsvc o at ks (effects j now (fact.Response q status age altsvc)) (answer_is j now q status altsvc) e
-live_noted j now fact.Network o at ks e = persistent_fresh at ks ∙ ap (filter (λ (a : Alt). a.persist)) e
-live_noted j now fact.Tick o at ks e = e
+live_noted t j now (fact.Response q status age altsvc) o at ks sound hold outs out e =
+    let f : Fact = fact.Response q status age altsvc in
+    let g : Option (Origin × AltKey) = given_up t f in
+    let left : fresh_alts at (spared g o ks) ≡ filter (λ (a : Alt). not (gives_up j o f a.key)) (live j o at) =
+    ap (fresh_alts at) (spared_are g o ks)
+    ∙ tested_fresh (λ a. not (is_given g o a.key)) at ks
+    ∙ filter_same (λ (a : Alt). not (is_given g o a.key)) (λ (a : Alt). not (gives_up j o f a.key)) (fresh_alts at ks) (λ a. ap not (given_up_is t j q status age altsvc o a.key sound hold outs (out q refl)))
+    ∙ ap (filter (λ (a : Alt). not (gives_up j o f a.key))) e in
+    answered_live j now q status age altsvc o at (spared g o ks) (effects j now f) (answer_is j now q status altsvc) left
+live_noted t j now fact.Network o at ks sound hold outs out e = tested_fresh (λ a. a.persist) at ks ∙ ap (filter (λ (a : Alt). a.persist)) e
+live_noted t j now fact.Tick o at ks sound hold outs out e = e

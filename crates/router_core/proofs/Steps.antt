@@ -13,7 +13,7 @@ use Rattle.route_events.specs.declared.refusal.StepRefusal.{StepRefusal}
 use Rattle.route_events.specs.declared.refusal.StepRefusal.TheVariants.{Spent, TimeBack, NumberNotAbove, NoSuchAttempt, NoSuchConn, NoSuchRequest}
 use Rattle.route_events.specs.Journal.{Happened, Taken, Journal, step_count, newest_moment}
 use Rattle.route_events.specs.Requests.{requests, newest_number, standing, waits, is_out, waiting}
-use Rattle.route_events.specs.Connections.{open_connections, is_open_number, outstanding}
+use Rattle.route_events.specs.Connections.{open_connections, is_open_number, outstanding, answered_in}
 use Rattle.route_events.specs.Dispatch.{dispatch}
 use Rattle.origin_values.specs.declared.origin.Origin.{Origin}
 use Rattle.network_cache.specs.declared.kept.Kept.{Kept}
@@ -46,8 +46,8 @@ use Rattle.request_dispatch.specs.StepStates.{none_waiting}
 use Rattle.router_core.specs.declared.router.Router.{Router}
 use Rattle.router_core.specs.Holds.{Hold, AreTried, AreOut}
 use Rattle.router_core.specs.Reasons.{reason_of, reason_of_fact, newest_after}
-use Rattle.router_core.specs.Notes.{value_noted, kept_after}
-use Rattle.router_core.specs.Effects.{ended, opened, answered_so}
+use Rattle.router_core.specs.Notes.{given_up, spared, value_noted, kept_after}
+use Rattle.router_core.specs.Effects.{ended, opened}
 use Rattle.router_core.specs.StandsFor.{StandsFor, Takes}
 use Rattle.router_core.specs.Becomes.{begun, after_effect, stepped, Becomes}
 use Rattle.request_dispatch.proofs.Listing.{filter_within}
@@ -57,7 +57,7 @@ use Rattle.router_core.proofs.Choosing.{among_is}
 use Rattle.router_core.proofs.SettlingSo.{Keeps, Asked, number_of, still_waiting, over_keeps}
 use Rattle.router_core.proofs.Effects.{waiting_request, tried_arrival, requests_tried, tried_ended, out_ended, hold_ended, hold_opened, out_on_is, loses_all, nowhere_else, hold_closed, out_arrival}
 use Rattle.router_core.proofs.Returning.{requests_rise}
-use Rattle.router_core.proofs.Answering.{answer_is, written_is, answered_keeps}
+use Rattle.router_core.proofs.Answering.{answer_keeps}
 use Rattle.router_core.proofs.Noting.{failures_noted_are, fresh_alts, live_noted}
 
 -- why a step isn't taken
@@ -119,6 +119,13 @@ answered_out j now q status age altsvc free = out_where (is_out (standing j q)) 
     out_where true e = refl
     out_where false e = absurd (true≢false (ap is_some e))
 
+answered_by : (j : Journal) (now : ℕ) (f : Fact) → refusal j now f ≡ None → (q : ℕ) → answered_in f ≡ Some q → is_out (standing j q) ≡ true
+answered_by j now (fact.Response r status age altsvc) free q is = subst (λ n. is_out (standing j n) ≡ true) (one r q is) (answered_out j now r status age altsvc free)
+  where
+    one : (a b : ℕ) → Some a ≡ Some b → a ≡ b
+    one a b e = cc
+answered_by j now _ free q is = absurd (true≢false (sym (ap is_some is)))
+
 -- what a router sees of alternatives before a step
 sees_before : (router : Router) (j : Journal) (now : ℕ) → StandsFor router j → newest_moment j ≤ now → (o : Origin) → live_at router.alternatives now o ≡ live j o now
 sees_before router j now stands later o = stands.alternatives o now later
@@ -172,9 +179,7 @@ fact_keeps router j now (fact.Closed c) stands sound later free =
     }
 fact_keeps router j now (fact.Response q status age altsvc) stands sound later free =
     let out : is_out (standing j q) ≡ true = answered_out j now q status age altsvc free in
-    let written = written_is router.tables j now q status altsvc router.tables.requests.outstanding stands.tables stands.outstanding out in
-    subst (λ as'. Keeps (answered_so (begun router) q status as') (with_fact j now (fact.Response q status age altsvc)) (waiting (with_fact j now (fact.Response q status age altsvc)))) (sym written)
-    (answered_keeps (begun router) j now q status age altsvc (answer_effects j now q status altsvc) refl (answer_is j now q status altsvc) sound (requests_rise stands.run) out stands.tables stands.waiting stands.tried stands.outstanding)
+    answer_keeps (begun router) j now q status age altsvc refl sound (requests_rise stands.run) out stands.tables stands.waiting stands.tried stands.outstanding
 fact_keeps router j now fact.Network stands sound later free = record {
   tables = record { opened = stands.tables.opened; pending = stands.tables.pending; connections = stands.tables.connections };
   waiting = stands.waiting;
@@ -261,11 +266,11 @@ step_keeps look router j now f so keeps sees =
 
 -- what is known of alternatives and failures when the requests are settled, and after it
 
-seen_live : (old new : Router) (actions : List Action) (j : Journal) (now : ℕ) (f : Fact) → StandsFor old j → newest_moment j ≤ now → Keeps (after_effect old now f) (with_fact j now f) (waiting (with_fact j now f)) → (becomes : Becomes old new actions now f) →
+seen_live : (old new : Router) (actions : List Action) (j : Journal) (now : ℕ) (f : Fact) → StandsFor old j → Sound j → refusal j now f ≡ None → newest_moment j ≤ now → Keeps (after_effect old now f) (with_fact j now f) (waiting (with_fact j now f)) → (becomes : Becomes old new actions now f) →
     (o : Origin) (at : ℕ) → now ≤ at → cache_live becomes.seen o at ≡ live (with_fact j now f) o at
-seen_live old new actions j now f stands later keeps becomes o at h =
-    ap (fresh_alts at) (becomes.noted o ∙ ap (λ as'. value_noted now (age_in f) as' o (kept_after f (kept old.alternatives o))) written)
-    ∙ live_noted j now f o at (kept old.alternatives o) (stands.alternatives o at (omega (arith, later, h)))
+seen_live old new actions j now f stands sound free later keeps becomes o at h =
+    ap (fresh_alts at) (becomes.noted o ∙ ap (λ as'. value_noted now (age_in f) as' o (spared (given_up old.tables f) o (kept_after f (kept old.alternatives o)))) written)
+    ∙ live_noted old.tables j now f o at (kept old.alternatives o) sound stands.tables stands.outstanding (answered_by j now f free) (stands.alternatives o at (omega (arith, later, h)))
   where
     written : (after_effect old now f).actions ≡ effects j now f
     written = keeps.written ∙ newest_with (Happened now f true ∷ j) (effects j now f)
@@ -273,10 +278,10 @@ seen_live old new actions j now f stands later keeps becomes o at h =
 failures_known : (old new : Router) (actions : List Action) (j : Journal) (now : ℕ) (f : Fact) → StandsFor old j → Becomes old new actions now f → (o : Origin) (key : AltKey) → kept_failures new.broken o (Alt key) ≡ capped (failures (with_fact j now f) o (Alt key))
 failures_known old new actions j now f stands becomes o key = becomes.failures o key ∙ failures_noted_are old.tables j now f o (Alt key) (kept_failures old.broken o (Alt key)) stands.tables (stands.failures o key)
 
-pub sees_settling : (old new : Router) (actions : List Action) (j : Journal) (now : ℕ) (f : Fact) → StandsFor old j → newest_moment j ≤ now → Keeps (after_effect old now f) (with_fact j now f) (waiting (with_fact j now f)) → (becomes : Becomes old new actions now f) →
+pub sees_settling : (old new : Router) (actions : List Action) (j : Journal) (now : ℕ) (f : Fact) → StandsFor old j → Sound j → refusal j now f ≡ None → newest_moment j ≤ now → Keeps (after_effect old now f) (with_fact j now f) (waiting (with_fact j now f)) → (becomes : Becomes old new actions now f) →
     Sees (look_of becomes.seen new.broken now) (with_fact j now f) now
-sees_settling old new actions j now f stands later keeps becomes = record {
-  live_seen = λ o. seen_live old new actions j now f stands later keeps becomes o now (omega arith);
+sees_settling old new actions j now f stands sound free later keeps becomes = record {
+  live_seen = λ o. seen_live old new actions j now f stands sound free later keeps becomes o now (omega arith);
   broken_seen = broken_now;
   address_seen = refl;
 }
@@ -308,7 +313,7 @@ step_stands old new actions j now f stands free becomes =
     let so : Settled j now f = settled_so j now f sound free in
     let begins = fact_keeps old j now f stands sound later free in
     let k : Journal = with_fact j now f in
-    let keeps = step_keeps (look_of becomes.seen new.broken now) old j now f so begins (sees_settling old new actions j now f stands later begins becomes) in
+    let keeps = step_keeps (look_of becomes.seen new.broken now) old j now f so begins (sees_settling old new actions j now f stands sound free later begins becomes) in
     let said : SaysSame k (step j now f) = said_settled k now (waiting k) in
     let counted : step_count (step j now f) ≡ 1 + step_count j = count_settle k now (waiting k) ∙ count_with (Happened now f true ∷ j) (effects j now f) in
     let facts : new.facts ≡ step_count (step j now f) = omega (arith, becomes.facts, stands.facts, counted) in
@@ -328,7 +333,7 @@ step_stands old new actions j now f stands free becomes =
         outstanding = subst (λ (t : Tables). AreOut (step j now f) t.requests.outstanding) (sym becomes.tables) keeps.outstanding;
         alternatives = λ o at h. ap (fresh_alts at) (becomes.purged o)
             ∙ ap (map (λ (x : Kept). x.alt)) (fresh_later now at (kept becomes.seen o) (omega (arith, moment, h)))
-            ∙ seen_live old new actions j now f stands later begins becomes o at (omega (arith, moment, h))
+            ∙ seen_live old new actions j now f stands sound free later begins becomes o at (omega (arith, moment, h))
             ∙ sym (said.live_same o at);
         none_ended = λ o. ap (λ t. filter (is_fresh t) (kept new.alternatives o)) becomes.last ∙ ap (filter (is_fresh now)) (becomes.purged o) ∙ filter_again (is_fresh now) (kept becomes.seen o) ∙ sym (becomes.purged o);
         failures = λ o key. failures_known old new actions j now f stands becomes o key ∙ ap capped (sym (said.failures_same o (Alt key)));

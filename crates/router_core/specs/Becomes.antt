@@ -15,7 +15,7 @@ use Rattle.request_dispatch.specs.declared.step_state.StepState.{StepState}
 use Rattle.request_dispatch.specs.Looks.{Look, live_at, look_of}
 use Rattle.request_dispatch.specs.StepStates.{settled}
 use Rattle.router_core.specs.Reasons.{newest_after}
-use Rattle.router_core.specs.Notes.{failures_noted, value_noted, kept_after}
+use Rattle.router_core.specs.Notes.{failures_noted, given_up, spared, value_noted, kept_after}
 use Rattle.router_core.specs.Effects.{with_effect}
 
 -- the state of a step as it begins
@@ -37,7 +37,7 @@ pub record Becomes (old new : Router) (actions : List Action) (now : ℕ) (fact 
   -- failures are noted, and the value that was taken, before the requests are settled
   pub failures : (o : Origin) (key : AltKey) → kept_failures new.broken o (Alt key) ≡ failures_noted old.tables.attempts.pending now fact o (Alt key) (kept_failures old.broken o (Alt key))
   pub seen : Cache
-  pub noted : (o : Origin) → kept seen o ≡ value_noted now (age_in fact) (after_effect old now fact).actions o (kept_after fact (kept old.alternatives o))
+  pub noted : (o : Origin) → kept seen o ≡ value_noted now (age_in fact) (after_effect old now fact).actions o (spared (given_up old.tables fact) o (kept_after fact (kept old.alternatives o)))
   pub purged : (o : Origin) → kept new.alternatives o ≡ filter (is_fresh now) (kept seen o)
   pub tables : new.tables ≡ (stepped old (look_of seen new.broken now) now fact).tables
   pub written : actions ≡ (stepped old (look_of seen new.broken now) now fact).actions

@@ -15,14 +15,14 @@ use Rattle.route_events.specs.declared.connection.Connection.{Connection}
 use Rattle.route_events.specs.declared.request.Request.{Request as RequestValue}
 use Rattle.route_events.specs.Alternatives.{alternatives_of}
 use Rattle.route_events.specs.Authority.{is_https, is_success, gives}
-use Rattle.route_events.specs.Advertisements.{value_taken}
+use Rattle.route_events.specs.Advertisements.{value_taken, retries}
 use Rattle.request_dispatch.specs.declared.open_connection.OpenConnection.{OpenConnection}
 use Rattle.request_dispatch.specs.declared.outstanding.Outstanding.{Outstanding}
 use Rattle.request_dispatch.specs.declared.step_state.StepState.{StepState}
 use Rattle.request_dispatch.specs.AttemptTable.{attempt_among, without_attempt}
 use Rattle.request_dispatch.specs.RequestTable as requests
 use Rattle.request_dispatch.specs.RequestTable.{RequestTable, request_among, after_end, lost, sent_back}
-use Rattle.request_dispatch.specs.ConnectionTable.{begun, connection_among, other_connections, out_on, without_request, rebound}
+use Rattle.request_dispatch.specs.ConnectionTable.{begun, connection_among, other_connections, out_on, without_request, misdirected_by, rebound}
 use Rattle.request_dispatch.specs.Carriers.{is_answered_by_authority}
 use Rattle.request_dispatch.specs.Looks.{no_address}
 
@@ -84,6 +84,15 @@ abbrev pub field_done : List OpenConnection → ℕ → Option (List ℕ) → Ou
 field_done connections status None x = []
 field_done connections status (Some bytes) x = advertised connections status x.request bytes ∷ []
 
+-- the actions of a response: a request that was turned away is tried again, and then what is done for the Alt-Svc
+abbrev pub answer_done : List OpenConnection → ℕ → ℕ → Option (List ℕ) → Option Outstanding → List Action
+answer_done connections request status altsvc found = retries request status ++ option_map_or (field_done connections status altsvc) found []
+
+-- a connection whose server says that it isn't the origin's is misdirected for the request's origin (RFC 9110 15.5.20)
+abbrev pub misdirected_for : ℕ → ℕ → Option Outstanding → List OpenConnection → List OpenConnection
+misdirected_for request status None connections = connections
+misdirected_for request status (Some x) connections = if nat_eq status 421 then map (misdirected_by request x.request.origin) connections else connections
+
 -- a value that was taken, for the connections
 abbrev pub rebound_by : List Action → List OpenConnection → List OpenConnection
 rebound_by (Alternatives origin value ∷ actions) connections = map (rebound origin (alternatives_of value)) connections
@@ -93,12 +102,12 @@ rebound_by _ connections = connections
 abbrev pub after_answer : ℕ → ℕ → RequestTable → RequestTable
 after_answer request status t = if nat_eq status 421 then sent_back request t else lost (request ∷ []) t
 
-abbrev pub answered_so : StepState → ℕ → ℕ → List Action → StepState
-answered_so s request status actions = record {
+abbrev pub answered_so : StepState → ℕ → ℕ → Option Outstanding → List Action → StepState
+answered_so s request status found actions = record {
   tables = record {
     attempts = s.tables.attempts;
     requests = after_answer request status s.tables.requests;
-    connections = rebound_by actions (map (without_request request) s.tables.connections);
+    connections = rebound_by actions (map (without_request request) (misdirected_for request status found s.tables.connections));
   };
   actions = s.actions ++ actions;
 }
@@ -106,7 +115,8 @@ answered_so s request status actions = record {
 -- a request is answered
 abbrev pub answered : StepState → ℕ → ℕ → Option (List ℕ) → StepState
 answered s request status altsvc =
-    answered_so s request status (option_map_or (field_done s.tables.connections status altsvc) (request_among s.tables.requests.outstanding request) [])
+    answered_so s request status (request_among s.tables.requests.outstanding request)
+    (answer_done s.tables.connections request status altsvc (request_among s.tables.requests.outstanding request))
 
 -- the effect of a fact, where these alternatives are live
 abbrev pub with_effect : (Origin → List Alt) → StepState → Fact → StepState

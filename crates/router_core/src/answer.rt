@@ -1,19 +1,18 @@
-ghost use Rattle.std.specs.Prelude.{◌≡◌, ◌∷◌, ◌++◌, [], IfOk, OnOk, map};
-ghost use Rattle.std.specs.Option.{option_map_or};
+ghost use Rattle.std.specs.Prelude.{◌≡◌, ◌∷◌, ◌++◌, [], IfOk, OnOk, map, nat_eq, if◌then◌else◌};
+ghost use Rattle.std.specs.Option.{option_copied, option_map_or};
 ghost use Rattle.altsvc_grammar.specs.ValueReading.{read_value};
-ghost use Rattle.route_events.specs.Advertisements.{value_of_reading, value_taken};
+ghost use Rattle.route_events.specs.Advertisements.{value_of_reading, value_taken, retries};
 ghost use Rattle.request_dispatch.specs.RequestTable.{request_among};
-ghost use Rattle.request_dispatch.specs.ConnectionTable.{without_request};
-ghost use Rattle.router_core.specs.Effects.{advertised, field_done, rebound_by, after_answer, answered_so, answered};
+ghost use Rattle.request_dispatch.specs.ConnectionTable.{without_request, misdirected_by};
+ghost use Rattle.router_core.specs.Effects.{advertised, field_done, answer_done, misdirected_for, rebound_by, after_answer, answered_so, answered};
 
+use crate::misdirection::MISDIRECTED;
 use alt_base::{Bytes, Duplicate, ListOf, NoMemory, Refused};
 use altsvc_grammar::{AltSvc, parse};
+use origin_values::Origin;
 use request_dispatch::{Connections, Outstanding, Requests, StepState, is_secure};
 use route_events::{Action, Actions, Request};
 use std::alloc::Global;
-
-/// The status of a response by a server that isn't the origin's (RFC 9110 15.5.20).
-const MISDIRECTED: u16 = 421;
 
 // A field that isn't taken, for a reason of its own.
 fn ignored(request: u32, reason: u8) -> Action
@@ -89,7 +88,18 @@ fn field_done(
     Ok(actions)
 }
 
-fn answer_actions(
+// A request that was turned away is tried again.
+fn retries(alloc: Global, request: u32, status: u16) -> Result<Actions, NoMemory>
+    ensures { IfOk result (λ actions. actions ≡ retries request status) }
+{
+    let mut actions = ListOf::new(alloc);
+    if status == MISDIRECTED {
+        actions.push(Action::Retry { request })?;
+    }
+    Ok(actions)
+}
+
+fn field_actions(
     alloc: Global,
     state: &StepState,
     request: u32,
@@ -102,6 +112,52 @@ fn answer_actions(
         None => Ok(ListOf::new(alloc)),
         Some(found) => field_done(alloc, &state.tables.connections, status, altsvc, found),
     }
+}
+
+fn answer_actions(
+    alloc: Global,
+    state: &StepState,
+    request: u32,
+    status: u16,
+    altsvc: &Option<Bytes>,
+) -> Result<Actions, NoMemory>
+    ensures { IfOk result (λ actions. actions ≡ answer_done state.now.tables.connections request status altsvc.now (request_among state.now.tables.requests.outstanding request)) }
+{
+    let mut actions = retries(alloc, request, status)?;
+    let field = field_actions(alloc, state, request, status, altsvc)?;
+    append_actions(&mut actions, field)?;
+    Ok(actions)
+}
+
+// The connection of a request that was turned away is misdirected for its origin.
+fn misdirect(
+    alloc: Global,
+    found: Option<&Outstanding>,
+    connections: &mut Connections,
+    request: u32,
+    status: u16,
+) -> Result<(), NoMemory>
+    ensures { OnOk result (connections.new ≡ misdirected_for request status (option_copied found.entry) connections.old) }
+{
+    match found {
+        None => Ok(()),
+        Some(sent) => misdirect_for(alloc, &sent.request.origin, connections, request, status),
+    }
+}
+
+fn misdirect_for(
+    alloc: Global,
+    origin: &Origin,
+    connections: &mut Connections,
+    request: u32,
+    status: u16,
+) -> Result<(), NoMemory>
+    ensures { OnOk result (connections.new ≡ (if nat_eq status 421 then map (misdirected_by request origin.now) connections.old else connections.old)) }
+{
+    if status == MISDIRECTED {
+        return connections.misdirect(alloc, request, origin);
+    }
+    Ok(())
 }
 
 // A value that was taken, for the connections.
@@ -141,7 +197,8 @@ fn append_actions(actions: &mut Actions, more: Actions) -> Result<(), NoMemory>
     Ok(())
 }
 
-/// A request is answered: it isn't outstanding any more, and the Alt-Svc of its response is taken, or isn't.
+/// A request is answered: it isn't outstanding any more, and the Alt-Svc of its response is taken, or isn't. Where it was
+/// turned away, it waits again, and its connection is misdirected for its origin.
 pub(crate) fn answer(
     alloc: Global,
     state: &mut StepState,
@@ -152,6 +209,8 @@ pub(crate) fn answer(
     ensures { OnOk result (state.new ≡ answered state.old request status altsvc) }
 {
     let actions = answer_actions(alloc, state, request, status, &altsvc)?;
+    let found = state.tables.requests.of_number(request);
+    misdirect(alloc, found, &mut state.tables.connections, request, status)?;
     state.tables.connections.note_answer(alloc, request);
     rebind_by(actions.as_slice(), &mut state.tables.connections);
     end_or_send_back(alloc, &mut state.tables.requests, request, status)?;

@@ -5,6 +5,7 @@ mod answer;
 mod effect;
 mod fault;
 mod laws;
+mod misdirection;
 mod notes;
 mod reason;
 mod router;

@@ -5,6 +5,7 @@ ghost use Rattle.request_dispatch.specs.ConnectionTable.{most_sends};
 
 use crate::StepFault;
 use crate::effect::take_fact;
+use crate::misdirection::{given_up, note_given_up};
 use crate::notes::{age_in, is_change, note_change, note_failures, note_value};
 use crate::reason::{newest_after, reason_of};
 use alt_base::{ListOf, Moment};
@@ -131,9 +132,11 @@ impl Router {
             tables,
             actions: ListOf::new(alloc),
         };
+        let given_up = given_up(alloc, &state.tables, &fact)?;
         note_failures(&mut broken, now, &state.tables.attempts, &fact)?;
         take_fact(alloc, &alternatives, now, &mut state, fact)?;
         note_change(&mut alternatives, changed);
+        note_given_up(&mut alternatives, &given_up);
         note_value(alloc, &mut alternatives, now, age, state.actions.as_slice())?;
         settle(alloc, &alternatives, &broken, now, &mut state)?;
         alternatives.purge(now);

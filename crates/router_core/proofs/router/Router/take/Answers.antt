@@ -7,7 +7,7 @@ use Rattle.request_dispatch.specs.ConnectionTable.{most_sends}
 use Rattle.request_dispatch.specs.Looks.{Look, live_at, look_of}
 use Rattle.request_dispatch.specs.StepStates.{settled, none_waiting}
 use Rattle.request_dispatch.proofs.Bounds.{over_opened, over_sends}
-use Rattle.router_core.specs.Notes.{value_noted}
+use Rattle.router_core.specs.Notes.{spared, value_noted}
 use Rattle.router_core.specs.Effects.{with_effect}
 use Rattle.router_core.specs.Becomes.{begun, after_effect, stepped}
 use Rattle.router_core.proofs.Bounds.{effect_small, not_spent}
@@ -63,7 +63,8 @@ returns-clause-ok c =
       seen = c.note_value.new.cache;
       noted = λ o. c.in_ok-note_value.ensures.kept o
           ∙ (λ i. value_noted c.args.now.0 (c.age_in-age.ensures i) ((c.as_slice.ensures ∙ ap (λ (s : StepState). s.actions) effected) i) o
-          ((c.note_change.ensures.kept o ∙ ap (λ b. cond b (filter persists (kept c.args.self.alternatives o)) (kept c.args.self.alternatives o)) c.is_change-changed.ensures) i));
+          ((c.note_given_up.ensures.kept o
+          ∙ (λ k. spared (c.in_ok-given_up.ensures k) o ((c.note_change.ensures.kept o ∙ ap (λ b. cond b (filter persists (kept c.args.self.alternatives o)) (kept c.args.self.alternatives o)) c.is_change-changed.ensures) k))) i));
       purged = λ o. c.purge.ensures.fresh o;
       tables = ap (λ (s : StepState). s.tables) state;
       written = ap (λ (s : StepState). s.actions) state;
