@@ -62,11 +62,11 @@ const BARRED: [Row; 5] = [
         b"open 1 https://a.example direct h2,http/1.1 a.example 443\nsend 1 on 1 stream 1\nfield 1 5 3\nsend 2 on 1 stream 3\nalternatives https://a.example clear\n",
         0,
     ),
-    // Nothing is taken for an origin of http, and a 421 is no line yet.
+    // Nothing is taken for an origin of http.
     (
-        b"0 request 1 http://a.example\n1 opened 1 http/1.1 192.0.2.1 80 -\n2 response 1 200\talt-svc: clear\n3 request 2 http://a.example\n4 response 2 421\n",
-        b"open 1 http://a.example direct http/1.1 a.example 80\nsend 1 on 1\nfield 1 12 0\nsend 2 on 1\nrefused 5 line 3 at 13\n",
-        1,
+        b"0 request 1 http://a.example\n1 opened 1 http/1.1 192.0.2.1 80 -\n2 response 1 200\talt-svc: clear\n3 request 2 http://a.example\n",
+        b"open 1 http://a.example direct http/1.1 a.example 80\nsend 1 on 1\nfield 1 12 0\nsend 2 on 1\n",
+        0,
     ),
 ];
 

@@ -55,6 +55,8 @@ mod frame_tests;
 #[cfg(test)]
 mod lent_table_tests;
 #[cfg(test)]
+mod misdirection_tests;
+#[cfg(test)]
 mod record_tests;
 #[cfg(test)]
 mod tests;

@@ -79,19 +79,18 @@ port_complete text port s =
 pub status_sound : (text : List ℕ) (status : ℕ) → status_of text ≡ Some status → SpellsStatus text status
 status_sound text status h = go (nat_eq (length text) 3) refl h
   where
-    checked : (n : ℕ) → final_status n ≡ Some status → (n ≡ status) × (200 ≤ n) × (n ≢ 421)
-    checked n e = at (nat_le 200 n) refl (nat_eq n 421) refl e
+    checked : (n : ℕ) → final_status n ≡ Some status → (n ≡ status) × (200 ≤ n)
+    checked n e = at (nat_le 200 n) refl e
       where
-        at : (a : Bool) → nat_le 200 n ≡ a → (b : Bool) → nat_eq n 421 ≡ b → cond (a && not b) (Some n) None ≡ Some status → (n ≡ status) × (200 ≤ n) × (n ≢ 421)
-        at true is false other f = (cc, true_le 200 n is, false_eq n 421 other)
-        at true is true other f = cc
-        at false is b other f = cc
+        at : (a : Bool) → nat_le 200 n ≡ a → cond a (Some n) None ≡ Some status → (n ≡ status) × (200 ≤ n)
+        at true is f = (cc, true_le 200 n is)
+        at false is f = cc
 
     number : (o : Option ℕ) → number_of most_status text ≡ o → length text ≡ 3 → option_and_then final_status o ≡ Some status → SpellsStatus text status
     number None is three e = cc
     number (Some n) is three e =
         let p = checked n e in
-        record { three = three; number = subst (SpellsNumber most_status text) p.0 (number_sound most_status text n is); final = omega (arith, p.0, p.1); not_misdirected = λ k. p.2 (p.0 ∙ k) }
+        record { three = three; number = subst (SpellsNumber most_status text) p.0 (number_sound most_status text n is); final = omega (arith, p.0, p.1) }
 
     go : (t : Bool) → nat_eq (length text) 3 ≡ t → cond t (option_and_then final_status (number_of most_status text)) None ≡ Some status → SpellsStatus text status
     go true is e = number (number_of most_status text) refl (true_eq (length text) 3 is) e
@@ -101,5 +100,4 @@ pub status_complete : (text : List ℕ) (status : ℕ) → SpellsStatus text sta
 status_complete text status s =
     ap (λ t. cond t (option_and_then final_status (number_of most_status text)) None) (eq_true (length text) 3 s.three)
     ∙ ap (option_and_then final_status) (number_complete most_status text status s.number)
-    ∙ ap (λ t. cond (t && not (nat_eq status 421)) (Some status) None) (le_true 200 status s.final)
-    ∙ ap (λ t. cond (true && not t) (Some status) None) (eq_false status 421 s.not_misdirected)
+    ∙ ap (λ t. cond t (Some status) None) (le_true 200 status s.final)

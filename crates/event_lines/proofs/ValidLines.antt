@@ -58,7 +58,6 @@ response_valid text request status age altsvc s = record {
   request_within = s.of_request.within;
   final = s.of_status.final;
   status_within = s.of_status.number.within;
-  not_misdirected = s.of_status.not_misdirected;
   age_within = age_within s.fields age s.of_age;
   of_altsvc = subst IsOptional (sym s.of_altsvc) (joined_valid (values_of (codes "alt-svc") s.fields) (are_values (codes "alt-svc") s.field_texts s.fields s.of_fields));
 }

@@ -112,10 +112,10 @@ three_digits (a ∷ b ∷ c ∷ d ∷ ds) n s least =
     let some = first_digit a s.numeral.1.0 s.no_zero in
     absurd (omega (arith, s.value, s.within, some, value_grows ds ((((0 * 10 + digit_value a) * 10 + digit_value b) * 10 + digit_value c) * 10 + digit_value d)))
 
-status_written : (status : ℕ) → 200 ≤ status → status ≤ most_status → status ≢ 421 → SpellsStatus (decimal status) status
-status_written status least within other =
+status_written : (status : ℕ) → 200 ≤ status → status ≤ most_status → SpellsStatus (decimal status) status
+status_written status least within =
     let number = number_written most_status status (omega arith) within in
-    record { three = three_digits (decimal status) status number least; number = number; final = least; not_misdirected = other }
+    record { three = three_digits (decimal status) status number least; number = number; final = least }
 
 -- the value of Alt-Svc is that of one field
 one_field : (request status age : ℕ) (altsvc : Option (List ℕ)) → IsOptional altsvc → HasNoLastSpace (Client (Response request status age altsvc)) → HasField altsvc
@@ -137,7 +137,7 @@ fact_written (Closed conn) h end = record { number_text = decimal conn; spelled 
 fact_written (Response request status age altsvc) h end =
     response_written request status age altsvc (one_field request status age altsvc h.of_altsvc end) (number_value age (omega (arith, h.age_within)) (no_space_from (decimal age) (number_inner age (omega (arith, h.age_within))))) h.age_within
     (number_apart most_short request (omega arith) h.request_within) (number_written most_short request (omega arith) h.request_within)
-    (status_written status h.final h.status_within h.not_misdirected)
+    (status_written status h.final h.status_within)
 fact_written Network h end = refl
 fact_written Tick h end = refl
 

@@ -10,7 +10,7 @@ use Rattle.altsvc_grammar.specs.declared.alt_svc.AltSvc.{AltSvc}
 use Rattle.route_events.specs.Authority.{protocols}
 use Rattle.route_events.specs.Dispatch.{host_or}
 use Rattle.route_events.specs.declared.action.Action.{Action}
-use Rattle.route_events.specs.declared.action.Action.TheVariants.{OpenTo, SendOn, Refuse, Lost, Alternatives, Field}
+use Rattle.route_events.specs.declared.action.Action.TheVariants.{OpenTo, SendOn, Refuse, Lost, Retry, Alternatives, Field}
 use Rattle.route_events.specs.declared.route.Route.{Route}
 use Rattle.route_events.specs.declared.route.Route.TheVariants.{Direct, Alt}
 
@@ -78,5 +78,6 @@ action_text (OpenTo attempt origin route) = open_text attempt origin route
 action_text (SendOn request conn stream alt_used) = send_text request conn ++ stream_text stream ++ alt_used_text alt_used
 action_text (Refuse request) = codes "refuse " ++ decimal request
 action_text (Lost request) = codes "lost " ++ decimal request
+action_text (Retry request) = codes "retry " ++ decimal request
 action_text (Alternatives origin value) = alternatives_text origin value
 action_text (Field request reason place) = ignored_field_text request reason place

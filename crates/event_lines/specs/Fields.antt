@@ -32,9 +32,9 @@ unless_zero n = if nat_lt 0 n then Some n else None
 abbrev pub port_of : List ℕ → Option ℕ
 port_of text = option_and_then unless_zero (number_of most_port text)
 
--- a status of a final response (RFC 9110 15). A 421 (RFC 9110 15.5.20) isn't read yet.
+-- a status of a final response (RFC 9110 15)
 abbrev pub final_status : ℕ → Option ℕ
-final_status n = if nat_le 200 n && not (nat_eq n 421) then Some n else None
+final_status n = if nat_le 200 n then Some n else None
 
 -- three digits
 abbrev pub status_of : List ℕ → Option ℕ

@@ -34,12 +34,11 @@ pub record SpellsPort (text : List ℕ) (port : ℕ) : Type 0 where
   pub number : SpellsNumber most_port text port
   pub some : 1 ≤ port
 
--- a status of a final response (RFC 9110 15) has three digits and is 200 to 599. A 421 (RFC 9110 15.5.20) isn't read yet.
+-- a status of a final response (RFC 9110 15) has three digits and is 200 to 599
 pub record SpellsStatus (text : List ℕ) (status : ℕ) : Type 0 where
   pub three : length text ≡ 3
   pub number : SpellsNumber most_status text status
   pub final : 200 ≤ status
-  pub not_misdirected : status ≢ 421
 
 abbrev pub SpellsProto : List ℕ → Proto → Type 0
 SpellsProto text proto = text ≡ proto_text proto

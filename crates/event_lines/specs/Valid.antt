@@ -35,7 +35,6 @@ pub record IsResponse (request status age : ℕ) (altsvc : Option (List ℕ)) : 
   pub request_within : request ≤ most_short
   pub final : 200 ≤ status
   pub status_within : status ≤ most_status
-  pub not_misdirected : status ≢ 421
   pub age_within : age ≤ greatest_delta_seconds
   pub of_altsvc : IsOptional altsvc
 

@@ -15,7 +15,7 @@ const PLAIN_PORT: u16 = 443;
 
 /// The line of an action, without a newline: `open A ORIGIN KIND PROTOS HOST PORT`, of kind `direct` or `alt`, with the
 /// protocols in the order h2, h3, http/1.1 and the host and port that the route goes to; `send Q on C`, with ` stream S`
-/// on HTTP/2 and ` alt-used X` where an alternative is told to the server (RFC 7838 5); `refuse Q`; `lost Q`;
+/// on HTTP/2 and ` alt-used X` where an alternative is told to the server (RFC 7838 5); `refuse Q`; `lost Q`; `retry Q`;
 /// `alternatives ORIGIN VALUE` with the canonical text of a value of Alt-Svc (RFC 7838 3); `field Q R PLACE`. Numbers are
 /// decimal.
 pub fn write_action(alloc: Global, action: &Action) -> Result<Bytes, NoMemory>
@@ -44,6 +44,10 @@ pub fn write_action(alloc: Global, action: &Action) -> Result<Bytes, NoMemory>
         }
         Action::Lost { request } => {
             append(&mut line, b"lost ")?;
+            append_number(&mut line, alloc, u64::from(*request))?;
+        }
+        Action::Retry { request } => {
+            append(&mut line, b"retry ")?;
             append_number(&mut line, alloc, u64::from(*request))?;
         }
         Action::Alternatives { origin, value } => {

@@ -13,8 +13,6 @@ const MOST_PORT: u64 = 65535;
 const LEAST_STATUS: u64 = 200;
 /// The greatest status.
 const MOST_STATUS: u64 = 599;
-/// The status of a misdirected request (RFC 9110 15.5.20).
-const MISDIRECTED: u64 = 421;
 
 // A port, from 1 to 65535.
 pub(crate) fn port_of(text: &[u8]) -> Option<u16>
@@ -26,7 +24,7 @@ pub(crate) fn port_of(text: &[u8]) -> Option<u16>
     }
 }
 
-// A status of a final response, of three digits. A 421 isn't read yet.
+// A status of a final response, of three digits.
 pub(crate) fn status_of(text: &[u8]) -> Option<u16>
     ensures { result ≡ status_of text.now }
 {
@@ -34,7 +32,7 @@ pub(crate) fn status_of(text: &[u8]) -> Option<u16>
         return None;
     }
     match number_of(text, MOST_STATUS) {
-        Some(number) if number >= LEAST_STATUS && number != MISDIRECTED => Some(number as u16),
+        Some(number) if number >= LEAST_STATUS => Some(number as u16),
         _ => None,
     }
 }

@@ -18,7 +18,7 @@ use std::alloc::Global;
 ///   to an address without brackets and a port, with a certificate of these names, `-` for none;
 /// - `failed A`: attempt A ended without a connection;
 /// - `closed C`: connection C ended;
-/// - `response Q STATUS`: the final response to request Q came, with a status of three digits from 200 to 599, but not 421.
+/// - `response Q STATUS`: the final response to request Q came, with a status of three digits from 200 to 599.
 ///   At most 64 of its fields follow, each behind one tab: a name, a colon, and a value of the bytes 20 to 7E and 80 to FF,
 ///   whose spaces at both ends are dropped (RFC 9110 5). The seconds of the first Age field (RFC 9111 5.1) and the values
 ///   of the Alt-Svc fields (RFC 7838 3), joined by a comma and a space, are kept, and no other field;

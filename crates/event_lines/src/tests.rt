@@ -126,7 +126,6 @@ fn responses_that_are_refused(rt: HostRuntime) {
         ("0 response 1 600", 13, LineRefusal::BadField),
         ("0 response 1 0200", 13, LineRefusal::BadField),
         ("0 response 1 20x", 13, LineRefusal::BadField),
-        ("0 response 1 421", 13, LineRefusal::BadField),
         ("0 response 1 200 ", 17, LineRefusal::ExtraField),
         ("0 response 1 200 \tage: 1", 17, LineRefusal::ExtraField),
         ("0 response 1 200\t", 17, LineRefusal::BadField),
@@ -255,6 +254,7 @@ fn lines_of_actions(rt: HostRuntime) -> Result<(), Fail> {
             ),
             (Action::Refuse { request: 8 }, "refuse 8"),
             (Action::Lost { request: 9 }, "lost 9"),
+            (Action::Retry { request: 7 }, "retry 7"),
         ];
         for (action, want) in actions {
             assert_eq!(rt;
