@@ -11,3 +11,4 @@ mod Noting
 mod Bounds
 mod Steps
 mod Forgetting
+mod Lending

@@ -1,7 +1,9 @@
 ghost use Rattle.std.specs.Prelude.{◌≡◌, ◌≤◌, ◌<◌, ◌+◌, ◌*◌, [], ℕ, length, IfOk, IfErr};
 ghost use Rattle.network_cache.specs.Contents.{newest_moment};
 ghost use Rattle.route_choice.specs.Contents.{newest_moment as newest_failure};
+ghost use Rattle.std.specs.Option.{option_copied, option_map};
 ghost use Rattle.request_dispatch.specs.ConnectionTable.{most_sends};
+ghost use Rattle.request_dispatch.specs.RequestTable.{request_among};
 
 use crate::StepFault;
 use crate::effect::take_fact;
@@ -10,6 +12,7 @@ use crate::notes::{age_in, is_change, note_change, note_failures, note_value};
 use crate::reason::{newest_after, reason_of};
 use alt_base::{ListOf, Moment};
 use network_cache::Cache;
+use origin_values::Origin;
 use request_dispatch::{Attempts, Connections, Requests, StepState, Tables, settle};
 use route_choice::Broken;
 use route_events::{Actions, Fact};
@@ -32,6 +35,15 @@ pub struct Router {
     ghost failures_known: { newest_failure broken ≤ last },
 }
 
+fn origin_of(requests: &Requests, request: u32) -> Option<&Origin>
+    ensures { option_copied result ≡ option_map (λ x. x.request.origin) (request_among requests.now.outstanding request) }
+{
+    match requests.of_number(request) {
+        None => None,
+        Some(sent) => Some(&sent.request.origin),
+    }
+}
+
 impl Router {
     ghost use Rattle.origin_values.specs.declared.origin.Origin.{Origin as OriginValue};
     ghost use Rattle.network_cache.specs.Contents.{live};
@@ -43,6 +55,7 @@ impl Router {
     ghost use Rattle.route_events.specs.Step.{step};
     ghost use Rattle.route_events.specs.Headline.{SendsOnlyOn, RefusesOnlyWhere, WaitsOnlyFor};
     ghost use Rattle.router_core.specs.Becomes.{Becomes};
+    ghost use Rattle.router_core.specs.Lent.{outstanding_origin};
     ghost use Rattle.router_core.specs.Reasons.{reason_of};
     ghost use Rattle.router_core.specs.StandsFor.{StandsFor, Takes, Refuses};
 
@@ -90,6 +103,13 @@ impl Router {
             });
         }
         self.take(now, fact)
+    }
+
+    /// The origin of a request that is outstanding; None exactly where it isn't. It takes no memory.
+    pub fn origin_of(&self, request: u32) -> Option<&Origin>
+        ensures { (journal : Journal) → StandsFor self.now journal → option_copied result ≡ outstanding_origin journal request }
+    {
+        origin_of(&self.tables.requests, request)
     }
 
     /// What is known of the alternatives of origins: at each moment from that of the newest step on, what the journal says
