@@ -9,11 +9,6 @@ use Rattle.request_dispatch.specs.declared.open_connection.OpenConnection.{OpenC
 use Rattle.request_dispatch.specs.ConnectionTable.{connection_among, most_sends}
 use Rattle.request_dispatch.specs.Carriers.{candidates, best_connection}
 
-set_suc : {X : Type 0} (f : X → X) (xs : List X) (i : ℕ) (y d : X) → i < length xs → y ≡ f (get_or xs i d) → set (map f (take i xs) ++ drop i xs) i y ≡ map f (take (suc i) xs) ++ drop (suc i) xs
-set_suc f [] i y d within is = absurd (omega arith)
-set_suc f (x ∷ xs) zero y d within is = ap (λ z. z ∷ xs) is
-set_suc f (x ∷ xs) (suc i) y d within is = ap (λ zs. f x ∷ zs) (set_suc f xs i y d (omega arith) is)
-
 -- one more item is appended as another
 pub map_more : {X Y : Type 0} (f : X → Y) (xs : List X) (i : ℕ) (d : X) → i < length xs → map f (take (i + 1) xs) ≡ map f (take i xs) ++ f (get_or xs i d) ∷ []
 map_more f xs i d within = rw add-one (map_suc f xs i d within)

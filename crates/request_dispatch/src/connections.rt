@@ -6,7 +6,9 @@ ghost use Rattle.request_dispatch.specs.Looks.{no_address};
 ghost use Rattle.request_dispatch.specs.Carriers.{is_carrier, candidates, best_connection, is_answered_by_authority};
 
 use crate::carriers::{candidates, is_answered_by_authority, is_any_carrier};
-use crate::open_connection::{OpenConnection, forget_request, misdirect_all, note_sends, rebind_all};
+use crate::open_connection::{
+    OpenConnection, forget_request, misdirect_all, note_sends, rebind_all,
+};
 use crate::requests::is_one_of;
 use alt_base::{ListOf, NoMemory};
 use altsvc_grammar::Alt;
@@ -165,9 +167,7 @@ fn connection_among(connections: &[OpenConnection], number: u64) -> Option<&Open
 fn carrying(connections: &[OpenConnection], request: u32) -> Option<&OpenConnection>
     ensures { option_copied result ≡ carrying connections.now request }
 {
-    connections
-        .iter()
-        .find(|connection| is_one_of(request, connection.outstanding.as_slice()))
+    connections.iter().find(|connection| is_one_of(request, connection.outstanding.as_slice()))
 }
 
 // The one of a number, if there is a number.

@@ -87,11 +87,7 @@ pub(crate) fn is_misdirected(connection: &OpenConnection, origin: &Origin) -> bo
     is_among(connection.misdirected.as_slice(), origin)
 }
 
-fn add_origin(
-    alloc: Global,
-    origins: &mut ListOf<Origin>,
-    origin: &Origin,
-) -> Result<(), NoMemory>
+fn add_origin(alloc: Global, origins: &mut ListOf<Origin>, origin: &Origin) -> Result<(), NoMemory>
     ensures { OnOk result (origins.new ≡ with_origin origin.now origins.old) }
 {
     if is_among(origins.as_slice(), origin) {

@@ -1,5 +1,6 @@
 -- What may be forgotten: a router that stands for a history stands for each one that is alike.
 use Rattle.std.proofs.Common.{◌≡◌, ℕ, zero, suc, Bool, true, false, List, [], ◌∷◌, map, Some, is_some, All, refl, ap, sym, ◌∙◌, subst, arith}
+use Rattle.alt_base.proofs.Booleans.{one_truth}
 use Rattle.route_choice.specs.Capped.{capped}
 use Rattle.route_events.specs.declared.connection.Connection.{Connection}
 use Rattle.route_events.specs.Journal.{Journal}
@@ -44,14 +45,9 @@ same_tried j k [] h was = tt
 same_tried j k (w ∷ ws) h was =
     (λ r. was.0 r ∙ first_of_all (SameTries j k) w.request (requests_of ws) h r, same_tried j k ws (rest_of_all (SameTries j k) w.request (requests_of ws) h) was.1)
 
-same_test : (a b : Bool) → (a ≡ true → b ≡ true) → (b ≡ true → a ≡ true) → a ≡ b
-same_test true b there back = sym (there refl)
-same_test false true there back = back refl
-same_test false false there back = refl
-
 same_out : (j k : Journal) (outs : List Outstanding) → Alike j k → AreOut j outs → AreOut k outs
 same_out j k outs alike are = record {
-  out = λ n. are.out n ∙ same_test (is_out (standing j n)) (is_out (standing k n)) (λ out. (alike.outstanding n out).out) (alike.no_more n);
+  out = λ n. are.out n ∙ one_truth (is_out (standing j n)) (is_out (standing k n)) (λ out. (alike.outstanding n out).out) (alike.no_more n);
   known = λ n x found. known_as n x found (alike.outstanding n (sym (are.out n) ∙ ap is_some found)) (are.known n x found);
 }
   where

@@ -24,7 +24,9 @@ fn turned_away_in(fact: &Fact) -> Option<u32>
 {
     match fact {
         Fact::Response {
-            request, status, ..
+            request,
+            status,
+            ..
         } => {
             if *status == MISDIRECTED {
                 Some(*request)
