@@ -15,7 +15,7 @@ use Rattle.svcb_wire.specs.declared.refusal.WireRefusal.TheVariants as wire
 use Rattle.svcb_wire.specs.RecordReading.{read_record}
 use Rattle.svcb_wire.specs.Records.{record_octets}
 use Rattle.svcb_text.specs.declared.refusal.RecordTextRefusal.{RecordTextRefusal}
-use Rattle.svcb_text.specs.declared.refusal.RecordTextRefusal.TheVariants as text
+use Rattle.svcb_text.specs.RefusalNumbers.{text_refusal_number}
 use Rattle.svcb_text.specs.TextReading.{read_record_text}
 use Rattle.svcb_text.specs.Written.{record_text}
 use Rattle.altroute_show.specs.RecordJson.{record_line}
@@ -74,16 +74,6 @@ abbrev pub hex_given : RecordForm → List ℕ → Given
 hex_given form input = octets_given form (decode_of (without_newline input))
 
 -- `write https`: the octets of the record that a text spells, in hex
-abbrev pub text_refusal_number : RecordTextRefusal → ℕ
-text_refusal_number text.BadPriority = 1
-text_refusal_number text.BadTarget = 2
-text_refusal_number text.BadKey = 3
-text_refusal_number text.RepeatedKey = 4
-text_refusal_number text.BadString = 5
-text_refusal_number (text.BadValue key) = 6
-text_refusal_number text.Inconsistent = 7
-text_refusal_number text.TooLong = 8
-
 abbrev pub octets_line : Svcb → List ℕ
 octets_line value = encode_lower (record_octets value) ++ codes "\n"
 

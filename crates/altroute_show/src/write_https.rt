@@ -1,29 +1,14 @@
 ghost use Rattle.std.specs.Prelude.{◌≡◌, ◌++◌, IfOk, codes};
 ghost use Rattle.hex.specs.Hex.{encode_lower};
-ghost use Rattle.altroute_show.specs.Given.{octets_line, text_given, text_refusal_number};
+ghost use Rattle.altroute_show.specs.Given.{octets_line, text_given};
 ghost use Rattle.svcb_wire.specs.Records.{IsRecord, record_octets};
 
 use crate::give::{trimmed, write_refused_at};
 use crate::given::Given;
 use alt_base::{Bytes, ListOf, NoMemory, Refused};
 use std::alloc::Global;
-use svcb_text::{RecordTextRefusal, parse};
+use svcb_text::parse;
 use svcb_wire::{Svcb, write};
-
-fn refusal_number(refusal: RecordTextRefusal) -> u32
-    ensures { result ≡ text_refusal_number refusal }
-{
-    match refusal {
-        RecordTextRefusal::BadPriority => 1,
-        RecordTextRefusal::BadTarget => 2,
-        RecordTextRefusal::BadKey => 3,
-        RecordTextRefusal::RepeatedKey => 4,
-        RecordTextRefusal::BadString => 5,
-        RecordTextRefusal::BadValue { .. } => 6,
-        RecordTextRefusal::Inconsistent => 7,
-        RecordTextRefusal::TooLong => 8,
-    }
-}
 
 // A record's octets in lower-case hex, as one line.
 fn write_octets(alloc: Global, value: &Svcb) -> Result<Bytes, NoMemory>
@@ -46,7 +31,7 @@ pub(crate) fn text_given(alloc: Global, input: &[u8]) -> Result<Given, NoMemory>
         Err(Refused::NoMemory) => Err(NoMemory),
         Err(Refused::At { place, reason }) => Ok(Given::Refused(write_refused_at(
             alloc,
-            refusal_number(reason),
+            u32::from(reason.number()),
             place,
         )?)),
     }

@@ -11,19 +11,19 @@ use Rattle.dns_names.proofs.Bytes.{bytes_back}
 use Rattle.alt_base.proofs.Numbers.{true_eq}
 use Rattle.svcb_text.specs.declared.refusal.RecordTextRefusal.{RecordTextRefusal}
 use Rattle.svcb_text.specs.declared.refusal.RecordTextRefusal.TheVariants.{BadPriority, BadTarget, BadKey, RepeatedKey, BadString, BadValue, Inconsistent, TooLong}
-use Rattle.svcb_text.specs.declared.unescaped.Unescaped.{Unescaped}
+use Rattle.svcb_values.specs.declared.unescaped.Unescaped.{Unescaped}
 use Rattle.alt_base.specs.Answers.{refused}
-use Rattle.svcb_text.specs.KeyNames.{is_key_byte, key_name, key_named}
-use Rattle.svcb_text.specs.StringGrammar.{EndsItem, StringRefusedAt, string_text}
-use Rattle.svcb_text.specs.StringReading.{StringAnswer, read_string, no_bytes}
-use Rattle.svcb_text.specs.ValueGrammar.{SpellsValue}
-use Rattle.svcb_text.specs.ValueReading.{read_value}
+use Rattle.svcb_values.specs.KeyNames.{is_key_byte, key_name, key_named}
+use Rattle.svcb_values.specs.StringGrammar.{EndsItem, StringRefusedAt, string_text}
+use Rattle.svcb_values.specs.StringReading.{StringAnswer, read_string, no_bytes}
+use Rattle.svcb_values.specs.ValueGrammar.{SpellsValue}
+use Rattle.svcb_values.specs.ValueReading.{read_value}
 use Rattle.svcb_text.specs.TextGrammar.{GivenParam, Alone, Valued, given_key, given_head, given_string, given_value, IsGiven}
 use Rattle.svcb_text.specs.TextReading.{ParamAnswer, by_value, by_string, behind_key, ends_key, by_key, first_param}
 use Rattle.svcb_text.specs.TextRefusals.{EndsKey}
-use Rattle.svcb_text.proofs.StringLaws.{string_spells, string_refuses, string_bytes}
-use Rattle.svcb_text.proofs.KeyLaws.{named_key, key_is_named, name_bytes}
-use Rattle.svcb_text.proofs.ValueLaws.{value_spells, value_read}
+use Rattle.svcb_values.proofs.StringLaws.{string_spells, string_refuses, string_bytes}
+use Rattle.svcb_values.proofs.KeyLaws.{named_key, key_is_named, name_bytes}
+use Rattle.svcb_values.proofs.ValueLaws.{value_spells, value_read}
 use Rattle.svcb_text.proofs.Items.{key_ends, ends_read, key_run, key_rest}
 use Rattle.alt_base.proofs.Booleans.{contradicts}
 use Rattle.alt_base.proofs.Variants.{some_none}

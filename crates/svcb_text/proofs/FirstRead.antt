@@ -9,19 +9,19 @@ use Rattle.dns_names.proofs.Bytes.{bytes_back}
 use Rattle.svcb_text.specs.declared.refusal.RecordTextRefusal.{RecordTextRefusal}
 use Rattle.svcb_text.specs.declared.refusal.RecordTextRefusal.TheVariants.{BadPriority, BadTarget, BadKey, RepeatedKey, BadString, BadValue, Inconsistent, TooLong}
 use Rattle.alt_base.specs.Answers.{refused}
-use Rattle.svcb_text.specs.KeyNames.{is_key_byte, key_name, key_named}
-use Rattle.svcb_text.specs.StringGrammar.{EndsItem, string_text, meant}
-use Rattle.svcb_text.specs.StringReading.{read_string, no_bytes}
-use Rattle.svcb_text.specs.ValueReading.{read_value}
+use Rattle.svcb_values.specs.KeyNames.{is_key_byte, key_name, key_named}
+use Rattle.svcb_values.specs.StringGrammar.{EndsItem, string_text, meant}
+use Rattle.svcb_values.specs.StringReading.{read_string, no_bytes}
+use Rattle.svcb_values.specs.ValueReading.{read_value}
 use Rattle.svcb_text.specs.TextGrammar.{GivenParam, Alone, Valued, given_key, given_head, given_string, given_value}
 use Rattle.svcb_text.specs.TextReading.{ParamAnswer, by_value, by_string, behind_key, ends_key, by_key, first_param}
 use Rattle.svcb_text.specs.TextRefusals.{EndsKey}
-use Rattle.svcb_text.proofs.StringLaws.{string_refused, string_bytes}
-use Rattle.svcb_text.proofs.KeyLaws.{named_key, key_is_named, name_bytes}
-use Rattle.svcb_text.proofs.ValueLaws.{value_spells, value_read}
+use Rattle.svcb_values.proofs.StringLaws.{string_refused, string_bytes}
+use Rattle.svcb_values.proofs.KeyLaws.{named_key, key_is_named, name_bytes}
+use Rattle.svcb_values.proofs.ValueLaws.{value_spells, value_read}
 use Rattle.svcb_text.proofs.Items.{key_ends, ends_read, item_ends_key, key_run, key_rest, blank_no_equals}
 use Rattle.svcb_text.proofs.FirstParam.{IsFirst, IsFirstParam, ParamStops}
-use Rattle.svcb_text.proofs.StringSpelled.{string_read}
+use Rattle.svcb_values.proofs.StringSpelled.{string_read}
 
 -- a key and what may follow it
 key_reads : (params : List Param) (place key : ℕ) (x more : List ℕ) → x ≡ key_name key ++ more → key < 65536 → EndsKey more

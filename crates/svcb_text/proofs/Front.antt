@@ -18,7 +18,7 @@ use Rattle.dns_names.specs.TextParts.{Part, Raw, Quoted, Decimal, part_text, par
 use Rattle.dns_names.specs.TextReading.{read_text}
 use Rattle.dns_names.proofs.TextSpelled.{spelled_reads as name_reads}
 use Rattle.alt_base.proofs.Numbers.{eq_false, lt_false, le_true, true_le}
-use Rattle.svcb_text.specs.StringGrammar.{EndsItem}
+use Rattle.svcb_values.specs.StringGrammar.{EndsItem}
 use Rattle.svcb_text.specs.TextGrammar.{SpellsPriority, Front, front_text, SpellsFront}
 use Rattle.svcb_text.specs.TextReading.{item_of, after_item, priority_of, by_priority, from_priority, by_target, behind_priority, with_params, read_params, read_record_text}
 use Rattle.svcb_text.proofs.Items.{no_blank, item_is, rest_is, ends_with_blanks}

@@ -4,8 +4,8 @@ use Rattle.std.proofs.lemmas.Bool.Decides.{nat_tests}
 use Rattle.field_text.specs.BlanksGrammar.{is_blank}
 use Rattle.field_text.specs.Runs.{AllIn, BeginsIn, run_of, after_run}
 use Rattle.field_text.proofs.RunLemmas.{longest_run, run_of-append, after_run-append}
-use Rattle.svcb_text.specs.KeyNames.{is_key_byte}
-use Rattle.svcb_text.specs.StringGrammar.{EndsItem}
+use Rattle.svcb_values.specs.KeyNames.{is_key_byte}
+use Rattle.svcb_values.specs.StringGrammar.{EndsItem}
 use Rattle.svcb_text.specs.TextGrammar.{AreBlanks}
 use Rattle.svcb_text.specs.TextReading.{ends_key, item_of, after_item}
 use Rattle.svcb_text.specs.TextRefusals.{EndsKey, IsItem}

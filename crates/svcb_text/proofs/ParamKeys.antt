@@ -6,9 +6,10 @@ use Rattle.svcb_wire.specs.Octets.{key_of, value_of, param_octets, params_octets
 use Rattle.svcb_wire.specs.Forms.{HasForm, AreParams}
 use Rattle.svcb_wire.specs.Usable.{has_key}
 use Rattle.alt_base.proofs.Numbers.{eq_false, false_eq, true_lt, false_lt}
-use Rattle.svcb_text.specs.ParamOrder.{IsNew, AreDistinct, IsOrderOf, keys_of}
+use Rattle.svcb_values.specs.KeyOrder.{IsNew, AreDistinct, IsOrderOf}
+use Rattle.svcb_text.specs.ParamOrder.{keys_of}
 use Rattle.svcb_text.specs.Placing.{placed}
-use Rattle.svcb_text.proofs.Order.{RiseFrom, all_placed_by, rise_placed, only_order, placed_order}
+use Rattle.svcb_values.proofs.Order.{RiseFrom, all_placed_by, rise_placed, only_order, placed_order}
 use Rattle.std.proofs.lemmas.Bool.{or_parts, or_from}
 use Rattle.alt_base.proofs.Booleans.{or_swap}
 

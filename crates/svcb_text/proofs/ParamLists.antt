@@ -11,10 +11,10 @@ use Rattle.svcb_wire.specs.Usable.{has_key}
 use Rattle.dns_names.proofs.Bytes.{bytes_back}
 use Rattle.svcb_text.specs.declared.refusal.RecordTextRefusal.{RecordTextRefusal}
 use Rattle.svcb_text.specs.Placing.{placed}
-use Rattle.svcb_text.specs.StringGrammar.{EndsItem}
+use Rattle.svcb_values.specs.StringGrammar.{EndsItem}
 use Rattle.svcb_text.specs.TextGrammar.{given_key, given_head, given_string, given_value, AreBlanks, Spaced, spaced_texts, SpellEach}
 use Rattle.svcb_text.specs.TextReading.{ParamAnswer, ParamsAnswer, first_param, by_param, params_from, params_behind}
-use Rattle.svcb_text.proofs.ValueLaws.{value_of_key}
+use Rattle.svcb_values.proofs.ValueLaws.{value_of_key}
 use Rattle.svcb_text.proofs.ParamKeys.{all_placed, AreFresh}
 use Rattle.svcb_text.proofs.Items.{blanks_between}
 use Rattle.svcb_text.proofs.FirstParam.{IsFirstParam, ParamStops, ParamSays, first_says}

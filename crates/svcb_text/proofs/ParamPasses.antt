@@ -10,13 +10,13 @@ use Rattle.svcb_wire.specs.declared.param.Param.{Param}
 use Rattle.svcb_wire.specs.Octets.{key_of}
 use Rattle.svcb_wire.specs.Usable.{has_key}
 use Rattle.svcb_text.specs.declared.refusal.RecordTextRefusal.{RecordTextRefusal}
-use Rattle.svcb_text.specs.KeyNames.{is_key_byte, key_name}
+use Rattle.svcb_values.specs.KeyNames.{is_key_byte, key_name}
 use Rattle.svcb_text.specs.Placing.{placed}
-use Rattle.svcb_text.specs.StringGrammar.{EndsItem}
+use Rattle.svcb_values.specs.StringGrammar.{EndsItem}
 use Rattle.svcb_text.specs.TextGrammar.{GivenParam, Alone, Valued, given_key, given_head, given_string, given_value, IsGiven, Spaced, spaced_texts, SpellEach}
 use Rattle.svcb_text.specs.TextReading.{ParamsAnswer, first_param, by_param, params_from, params_behind}
-use Rattle.svcb_text.proofs.KeyLaws.{name_bytes, name_some}
-use Rattle.svcb_text.proofs.ValueLaws.{value_of_key}
+use Rattle.svcb_values.proofs.KeyLaws.{name_bytes, name_some}
+use Rattle.svcb_values.proofs.ValueLaws.{value_of_key}
 use Rattle.svcb_text.proofs.ParamKeys.{all_placed, AreFresh}
 use Rattle.svcb_text.proofs.Items.{ends_with_blanks, no_key_byte}
 use Rattle.svcb_text.proofs.FirstParam.{IsFirstParam}

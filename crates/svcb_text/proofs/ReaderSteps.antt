@@ -23,12 +23,12 @@ use Rattle.svcb_wire.specs.Usable.{has_key}
 use Rattle.svcb_text.specs.declared.refusal.RecordTextRefusal.{RecordTextRefusal}
 use Rattle.svcb_text.specs.declared.refusal.RecordTextRefusal.TheVariants.{BadPriority, BadTarget, BadKey, RepeatedKey}
 use Rattle.alt_base.specs.Answers.{refused, Answers}
-use Rattle.svcb_text.specs.KeyNames.{is_key_byte, key_named}
+use Rattle.svcb_values.specs.KeyNames.{is_key_byte, key_named}
 use Rattle.svcb_text.specs.ParamOrder.{AreKeyed}
 use Rattle.svcb_text.specs.Placing.{placed}
 use Rattle.svcb_text.specs.TextReading.{ParamsAnswer, ends_key, behind_key, by_key, first_param, by_param, params_from, params_behind, read_params, with_params, item_of, after_item, by_target, behind_priority, priority_of, by_priority, from_priority}
 use Rattle.svcb_text.specs.TextGrammar.{given_key, given_value}
-use Rattle.svcb_text.proofs.ValueLaws.{value_of_key}
+use Rattle.svcb_values.proofs.ValueLaws.{value_of_key}
 use Rattle.svcb_text.proofs.FirstParam.{IsFirstParam, ParamSays, first_says}
 use Rattle.svcb_text.proofs.KeyedMap.{has_found}
 

@@ -20,9 +20,9 @@ use Rattle.alt_base.proofs.Numbers.{true_eq, true_lt, false_lt}
 use Rattle.svcb_text.specs.declared.refusal.RecordTextRefusal.{RecordTextRefusal}
 use Rattle.svcb_text.specs.declared.refusal.RecordTextRefusal.TheVariants.{BadPriority, BadTarget, BadKey, RepeatedKey, BadString, BadValue, Inconsistent, TooLong}
 use Rattle.alt_base.specs.Answers.{refused, Answers, IfRefused}
-use Rattle.svcb_text.specs.KeyNames.{key_name}
-use Rattle.svcb_text.specs.ParamOrder.{IsOrderOf}
-use Rattle.svcb_text.specs.StringGrammar.{EndsItem}
+use Rattle.svcb_values.specs.KeyNames.{key_name}
+use Rattle.svcb_values.specs.KeyOrder.{IsOrderOf}
+use Rattle.svcb_values.specs.StringGrammar.{EndsItem}
 use Rattle.svcb_text.specs.TextGrammar.{given_head, given_string, spaced_texts, SpellsPriority, Front, front_text, HasForm, IsAllowed, SpellsRecordText}
 use Rattle.svcb_text.specs.TextReading.{ParamsAnswer, RecordAnswer, read_params, finish, with_params, item_of, after_item, by_target, priority_of, by_priority, from_priority, read_record_text}
 use Rattle.svcb_text.specs.TextRefusals.{GoesOn, RecordTextRefusedAt}

@@ -15,8 +15,9 @@ use Rattle.alt_base.proofs.Numbers.{eq_true, lt_true, lt_false, true_eq}
 use Rattle.svcb_text.specs.declared.refusal.RecordTextRefusal.{RecordTextRefusal}
 use Rattle.svcb_text.specs.declared.refusal.RecordTextRefusal.TheVariants.{BadPriority, BadTarget, BadKey, RepeatedKey, BadString, BadValue, Inconsistent, TooLong}
 use Rattle.alt_base.specs.Answers.{refused}
-use Rattle.svcb_text.specs.KeyNames.{is_key_byte, key_name}
-use Rattle.svcb_text.specs.ParamOrder.{IsNew, keys_of}
+use Rattle.svcb_values.specs.KeyNames.{is_key_byte, key_name}
+use Rattle.svcb_values.specs.KeyOrder.{IsNew}
+use Rattle.svcb_text.specs.ParamOrder.{keys_of}
 use Rattle.svcb_text.specs.TextGrammar.{front_text, spaced_texts, HasForm, IsAllowed, SpellsRecordText}
 use Rattle.svcb_text.specs.TextReading.{RecordAnswer, first_param, params_behind, finish, with_params, item_of, by_target, priority_of, by_priority, read_record_text}
 use Rattle.svcb_text.specs.TextRefusals.{GoesOn, RecordTextRefusedAt, IsBadPriority, IsBadTarget, OneRecordText}

@@ -12,10 +12,10 @@ use Rattle.svcb_wire.specs.Records.{IsRecord}
 use Rattle.dns_names.proofs.Bytes.{bytes_back}
 use Rattle.svcb_text.specs.declared.refusal.RecordTextRefusal.{RecordTextRefusal}
 use Rattle.alt_base.specs.Answers.{Answers}
-use Rattle.svcb_text.specs.StringGrammar.{EndsItem}
+use Rattle.svcb_values.specs.StringGrammar.{EndsItem}
 use Rattle.svcb_text.specs.TextGrammar.{given_key, given_head, given_string, given_value, front_text, Spaced, spaced_texts, SpellEach, SpellsRecordText}
 use Rattle.svcb_text.specs.TextReading.{read_record_text}
-use Rattle.svcb_text.proofs.ValueLaws.{value_has_form}
+use Rattle.svcb_values.proofs.ValueLaws.{value_has_form}
 use Rattle.svcb_text.proofs.ParamKeys.{in_order, order_is, HaveForms, AreFormed, distinct_fresh, formed_all, params_are}
 use Rattle.svcb_text.proofs.Items.{blanks_end}
 use Rattle.svcb_text.proofs.FirstParam.{IsFirst}

@@ -10,15 +10,16 @@ use Rattle.origin_values.specs.Written.{v6_text}
 use Rattle.svcb_wire.specs.declared.param.Param.{Param}
 use Rattle.svcb_wire.specs.declared.param.Param.TheVariants.{Mandatory, Alpn, NoDefaultAlpn, Port, V4Hint, Other, V6Hint}
 use Rattle.svcb_wire.specs.Forms.{AreRising, AreAddresses, IsOtherKey, HasForm}
-use Rattle.svcb_text.specs.declared.token.Style.TheVariants.{Contiguous, InQuotes}
-use Rattle.svcb_text.specs.KeyNames.{key_name}
-use Rattle.svcb_text.specs.ValueGrammar.{SpellsKeys, SpellsIds, SpellEach, SpellsAddresses, SpellsPort, SpellsValue}
+use Rattle.svcb_values.specs.declared.token.Style.TheVariants.{Contiguous, InQuotes}
+use Rattle.svcb_values.specs.KeyNames.{key_name}
+use Rattle.svcb_values.specs.ValueGrammar.{SpellsKeys, SpellsIds, SpellEach, SpellsAddresses, SpellsPort, SpellsValue}
 use Rattle.svcb_text.specs.TextGrammar.{GivenParam, Alone, Valued, given_key, given_head, given_string, given_value, IsGiven}
-use Rattle.svcb_text.specs.Written.{written_part, in_quotes, id_written, param_written}
-use Rattle.svcb_text.proofs.QuotingLaws.{quoted_parts_valid, quoted_parts_mean}
-use Rattle.svcb_text.proofs.ValueTexts.{AreContiguous, AreAllContiguous, raw_parts, raw_text, raw_bytes, raw_plain, joined_contiguous, name_contiguous, decimal_contiguous, v4_spelled, v6_spelled, v4_contiguous, v6_contiguous}
-use Rattle.svcb_text.proofs.WrittenIds.{ids_spelled, ids_bytes}
-use Rattle.svcb_text.proofs.WrittenOrder.{rising_order, rising_mandatory}
+use Rattle.svcb_values.specs.Written.{written_part, in_quotes, id_written}
+use Rattle.svcb_text.specs.Written.{param_written}
+use Rattle.svcb_values.proofs.QuotingLaws.{quoted_parts_valid, quoted_parts_mean}
+use Rattle.svcb_values.proofs.ValueTexts.{AreContiguous, AreAllContiguous, raw_parts, raw_text, raw_bytes, raw_plain, joined_contiguous, name_contiguous, decimal_contiguous, v4_spelled, v6_spelled, v4_contiguous, v6_contiguous}
+use Rattle.svcb_values.proofs.WrittenIds.{ids_spelled, ids_bytes}
+use Rattle.svcb_values.proofs.RisingKeys.{rising_order, rising_mandatory}
 
 abbrev keys_text : List ℕ → List ℕ
 keys_text keys = join_with_byte 44 (map key_name keys)

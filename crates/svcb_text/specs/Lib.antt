@@ -1,13 +1,7 @@
-pub mod KeyNames
-pub mod StringGrammar
-pub mod StringReading
-pub mod StringAnswers
-pub mod ValueGrammar
-pub mod ValueReading
 pub mod ParamOrder
 pub mod Placing
 pub mod TextGrammar
 pub mod TextRefusals
+pub mod RefusalNumbers
 pub mod TextReading
 pub mod Written
-pub mod Commas

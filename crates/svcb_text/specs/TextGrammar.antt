@@ -10,12 +10,13 @@ use Rattle.svcb_wire.specs.declared.svcb.Svcb.{Svcb}
 use Rattle.svcb_wire.specs.Octets.{key_of}
 use Rattle.svcb_wire.specs.Records.{record_octets}
 use Rattle.svcb_wire.specs.Usable.{is_consistent}
-use Rattle.svcb_text.specs.declared.token.Style.{Style}
-use Rattle.svcb_text.specs.declared.unescaped.Unescaped.{Unescaped}
-use Rattle.svcb_text.specs.KeyNames.{key_name}
-use Rattle.svcb_text.specs.StringGrammar.{AreParts, string_text, meant}
-use Rattle.svcb_text.specs.ValueGrammar.{SpellsValue}
-use Rattle.svcb_text.specs.ParamOrder.{AreDistinct, IsOrderOf, keys_of}
+use Rattle.svcb_values.specs.declared.token.Style.{Style}
+use Rattle.svcb_values.specs.declared.unescaped.Unescaped.{Unescaped}
+use Rattle.svcb_values.specs.KeyNames.{key_name}
+use Rattle.svcb_values.specs.StringGrammar.{AreParts, string_text, meant}
+use Rattle.svcb_values.specs.ValueGrammar.{SpellsValue}
+use Rattle.svcb_values.specs.KeyOrder.{AreDistinct, IsOrderOf}
+use Rattle.svcb_text.specs.ParamOrder.{keys_of}
 
 -- a key alone, or a key, `=` and a string
 pub data GivenParam : Type 0 where

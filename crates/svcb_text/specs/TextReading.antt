@@ -13,9 +13,9 @@ use Rattle.svcb_wire.specs.Usable.{is_consistent, has_key}
 use Rattle.svcb_text.specs.declared.refusal.RecordTextRefusal.{RecordTextRefusal}
 use Rattle.svcb_text.specs.declared.refusal.RecordTextRefusal.TheVariants.{BadPriority, BadTarget, BadKey, RepeatedKey, BadString, BadValue, Inconsistent, TooLong}
 use Rattle.alt_base.specs.Answers.{refused}
-use Rattle.svcb_text.specs.KeyNames.{is_key_byte, key_named}
-use Rattle.svcb_text.specs.StringReading.{StringAnswer, read_string, no_bytes}
-use Rattle.svcb_text.specs.ValueReading.{read_value}
+use Rattle.svcb_values.specs.KeyNames.{is_key_byte, key_named}
+use Rattle.svcb_values.specs.StringReading.{StringAnswer, read_string, no_bytes}
+use Rattle.svcb_values.specs.ValueReading.{read_value}
 use Rattle.svcb_text.specs.Placing.{placed}
 
 -- a parameter and how many bytes it takes, or a refusal at a place

@@ -11,10 +11,11 @@ use Rattle.svcb_wire.specs.declared.svcb.Svcb.{Svcb}
 use Rattle.svcb_wire.specs.Records.{record_octets}
 use Rattle.svcb_text.specs.declared.refusal.RecordTextRefusal.{RecordTextRefusal}
 use Rattle.svcb_text.specs.declared.refusal.RecordTextRefusal.TheVariants.{BadPriority, BadTarget, BadKey, RepeatedKey, BadString, BadValue, Inconsistent, TooLong}
-use Rattle.svcb_text.specs.KeyNames.{key_name}
-use Rattle.svcb_text.specs.StringGrammar.{EndsItem, StringRefusedAt}
-use Rattle.svcb_text.specs.ValueGrammar.{SpellsValue}
-use Rattle.svcb_text.specs.ParamOrder.{IsNew, AreDistinct, keys_of}
+use Rattle.svcb_values.specs.KeyNames.{key_name}
+use Rattle.svcb_values.specs.StringGrammar.{EndsItem, StringRefusedAt}
+use Rattle.svcb_values.specs.ValueGrammar.{SpellsValue}
+use Rattle.svcb_values.specs.KeyOrder.{IsNew, AreDistinct}
+use Rattle.svcb_text.specs.ParamOrder.{keys_of}
 use Rattle.svcb_text.specs.TextGrammar.{GivenParam, given_key, given_head, given_string, given_value, IsGiven, AreBlanks, Spaced, spaced_texts, SpellEach, SpellsPriority, Front, front_text, SpellsFront, HasForm, IsAllowed, SpellsRecordText}
 
 -- an item, maybe none, and what stands behind it

@@ -1,12 +1,11 @@
 ghost use Rattle.std.specs.Prelude.{◌≡◌, ◌++◌, OnOk, map, codes, decimal};
 ghost use Rattle.std.specs.List.{join_with_byte};
-ghost use Rattle.svcb_text.specs.Written.{in_quotes, id_written, other_written, param_written, params_written};
+ghost use Rattle.svcb_values.specs.Written.{in_quotes, id_written};
+ghost use Rattle.svcb_text.specs.Written.{other_written, param_written, params_written};
 
-use crate::key_names::key_name;
-use crate::list_writer::{append_joined, id_texts, key_texts, v4_texts, v6_texts};
-use crate::quoting::in_quotes;
 use alt_base::{Bytes, ListOf, NoMemory, Text};
 use std::alloc::Global;
+use svcb_values::{append_joined, id_texts, in_quotes, key_name, key_texts, v4_texts, v6_texts};
 use svcb_wire::Param;
 
 // Appends a name, `=` and items joined by commas.

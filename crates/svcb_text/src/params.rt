@@ -4,21 +4,18 @@ ghost use Rattle.field_text.specs.Runs.{run_of};
 ghost use Rattle.svcb_wire.specs.Octets.{key_of};
 ghost use Rattle.svcb_wire.specs.Usable.{has_key};
 ghost use Rattle.alt_base.specs.Answers.{Answers};
-ghost use Rattle.svcb_text.specs.KeyNames.{is_key_byte};
+ghost use Rattle.svcb_values.specs.KeyNames.{is_key_byte};
 ghost use Rattle.svcb_text.specs.ParamOrder.{AreKeyed};
-ghost use Rattle.svcb_text.specs.StringReading.{read_string};
+ghost use Rattle.svcb_values.specs.StringReading.{read_string};
 ghost use Rattle.svcb_text.specs.TextReading.{by_value, by_string, behind_key, ends_key, first_param, read_params};
-ghost use Rattle.svcb_text.specs.ValueReading.{read_value};
+ghost use Rattle.svcb_values.specs.ValueReading.{read_value};
 
-use crate::key_names::key_named;
-use crate::string_fault::StringFault;
-use crate::strings::read_string;
-use crate::values::read_value;
-use crate::{RecordTextRefusal, Unescaped};
+use crate::RecordTextRefusal;
 use alt_base::{Bytes, ListOf, NoMemory, Refused, record_key_table};
 use field_text::ows;
 use std::alloc::Global;
 use std::collections::BTreeMap;
+use svcb_values::{StringFault, Unescaped, key_named, read_string, read_value};
 use svcb_wire::{Param, Params, param_key};
 
 // How many bytes of keys stand in front.

@@ -1,3 +1,6 @@
+ghost use Rattle.std.specs.Prelude.{◌≡◌};
+ghost use Rattle.svcb_text.specs.RefusalNumbers.{text_refusal_number};
+
 /// Why a text is no record.
 #[derive(Clone, Copy, Debug, PartialEq, Eq)]
 pub enum RecordTextRefusal {
@@ -17,4 +20,22 @@ pub enum RecordTextRefusal {
     Inconsistent,
     /// More than 65,535 bytes: at 65,535. RDATA of more than 65,535 octets: at the length.
     TooLong,
+}
+
+impl RecordTextRefusal {
+    /// Its number, from 1 in the order in which the refusals stand here. It takes no memory.
+    pub fn number(self) -> u8
+        ensures { result ≡ text_refusal_number self }
+    {
+        match self {
+            RecordTextRefusal::BadPriority => 1,
+            RecordTextRefusal::BadTarget => 2,
+            RecordTextRefusal::BadKey => 3,
+            RecordTextRefusal::RepeatedKey => 4,
+            RecordTextRefusal::BadString => 5,
+            RecordTextRefusal::BadValue { .. } => 6,
+            RecordTextRefusal::Inconsistent => 7,
+            RecordTextRefusal::TooLong => 8,
+        }
+    }
 }

@@ -1,6 +1,0 @@
-use Rattle.std.proofs.Common.{◌≡◌, ◌++◌, drop}
-use Rattle.svcb_text.specs.Commas.{behind_commas}
-use Rattle.svcb_text.proofs.list_writer.append_further.Given as goal
-
-abbrev pub invariant-loop-item : goal.invariant-loop-item
-invariant-loop-item l = l.text.items ++ behind_commas (drop l.item-index l.items) ≡ l.fn.text.items ++ behind_commas l.items

@@ -1,6 +1,0 @@
-use Rattle.std.proofs.Common.{◌≡◌, take}
-use Rattle.svcb_text.specs.Written.{id_written}
-use Rattle.svcb_text.proofs.list_writer.id_text.Given as goal
-
-abbrev pub invariant-loop-byte : goal.invariant-loop-byte
-invariant-loop-byte l = l.text.items ≡ id_written (take l.byte-index l.id)

@@ -1,6 +1,0 @@
-use Rattle.std.proofs.Common.{◌≡◌, map, take}
-use Rattle.svcb_text.specs.KeyNames.{key_name}
-use Rattle.svcb_text.proofs.list_writer.key_texts.Given as goal
-
-abbrev pub invariant-loop-key : goal.invariant-loop-key
-invariant-loop-key l = l.texts ≡ map key_name (take l.key-index l.keys)

@@ -1,5 +1,0 @@
-use Rattle.svcb_text.proofs.StringLaws.{one_of}
-use Rattle.svcb_text.proofs.string_laws.one_string.Goals as goal
-
-pub returns : goal.returns
-returns c = λ x. one_of x

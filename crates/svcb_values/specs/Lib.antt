@@ -1,0 +1,10 @@
+pub mod KeyNames
+pub mod StringGrammar
+pub mod StringReading
+pub mod StringAnswers
+pub mod KeyOrder
+pub mod Placing
+pub mod ValueGrammar
+pub mod ValueReading
+pub mod Written
+pub mod Commas
