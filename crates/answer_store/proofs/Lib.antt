@@ -1,0 +1,5 @@
+pub mod Names
+pub mod Places
+pub mod Counts
+pub mod OfKinds
+pub mod Counting
