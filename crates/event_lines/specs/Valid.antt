@@ -1,5 +1,5 @@
 -- The moments and events that lines say.
-use Rattle.std.specs.Prelude.{◌≡◌, ◌≢◌, ℕ, ◌≤◌, List, Option, Some, None}
+use Rattle.std.specs.Prelude.{◌≡◌, ℕ, ◌≤◌, List, Option, Some, None}
 use Rattle.origin_values.specs.Valid.{IsAddr, IsOrigin}
 use Rattle.origin_values.specs.declared.address.Addr.{Addr}
 use Rattle.coalescing.specs.NamesWritten.{HaveText}

@@ -1,5 +1,5 @@
 -- What loops over lists make, one more item at a time.
-use Rattle.std.proofs.Common.{◌≡◌, ℕ, ◌+◌, ◌<◌, ◌≤◌, zero, suc, Bool, true, false, cond, List, [], ◌∷◌, ◌++◌, map, take, drop, set, get_or, length, Option, Some, None, is_some, find, nat_eq, refl, ap, sym, arith, add-one, true≢false, subst}
+use Rattle.std.proofs.Common.{◌≡◌, ℕ, ◌+◌, ◌<◌, ◌≤◌, zero, suc, Bool, true, false, cond, List, [], ◌∷◌, ◌++◌, map, take, get_or, length, Option, Some, None, is_some, find, nat_eq, refl, ap, sym, arith, add-one, true≢false, subst}
 use Rattle.std.specs.Prelude.{max}
 use Rattle.std.specs.Option.{option_and_then}
 use Rattle.origin_values.specs.declared.address.Addr.{Addr}

@@ -1,5 +1,5 @@
 -- What may be forgotten: a router that stands for a history stands for each one that is alike.
-use Rattle.std.proofs.Common.{◌≡◌, ℕ, zero, suc, Bool, true, false, List, [], ◌∷◌, map, Some, is_some, All, refl, ap, sym, ◌∙◌, subst, arith}
+use Rattle.std.proofs.Common.{◌≡◌, ℕ, zero, suc, List, [], ◌∷◌, map, Some, is_some, All, refl, ap, sym, ◌∙◌, subst, arith}
 use Rattle.alt_base.proofs.Booleans.{one_truth}
 use Rattle.route_choice.specs.Capped.{capped}
 use Rattle.route_events.specs.declared.connection.Connection.{Connection}

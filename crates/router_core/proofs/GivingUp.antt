@@ -17,7 +17,7 @@ use Rattle.route_events.specs.declared.route.Route.TheVariants.{Direct, Alt}
 use Rattle.route_events.specs.declared.request.Request.{Request}
 use Rattle.route_events.specs.declared.connection.Connection.{Connection}
 use Rattle.route_events.specs.Journal.{Journal}
-use Rattle.route_events.specs.Requests.{Standing, OutOn, request_of, standing, is_out}
+use Rattle.route_events.specs.Requests.{Standing, OutOn, standing, is_out}
 use Rattle.route_events.specs.Connections.{is_open, connections, open_connections, is_one_of, outstanding}
 use Rattle.route_events.specs.Misdirection.{asks_for, is_route_by, was_opened_by, gives_up}
 use Rattle.route_events.specs.Records.{ConnectionRecord}

@@ -9,7 +9,7 @@ use Rattle.altsvc_grammar.specs.Keys.{key_eq}
 use Rattle.altsvc_grammar.specs.declared.alt_key.AltKey.{AltKey}
 use Rattle.altsvc_grammar.specs.declared.alt.Alt.{Alt}
 use Rattle.network_cache.specs.declared.kept.Kept.{Kept}
-use Rattle.network_cache.specs.Freshness.{taken_at, is_fresh, persists, has_other_key}
+use Rattle.network_cache.specs.Freshness.{taken_at, is_fresh, has_other_key}
 use Rattle.network_cache.proofs.Origins.{turned, turned_not}
 use Rattle.route_choice.specs.Capped.{capped}
 use Rattle.route_events.specs.declared.fact.Fact.{Fact}
