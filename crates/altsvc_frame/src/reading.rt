@@ -2,12 +2,11 @@ ghost use Rattle.std.specs.Prelude.{◌≡◌, ◌<◌, ◌+◌, ◌^◌, length
 ghost use Rattle.alt_base.specs.Answers.{Answers, IfRefused};
 ghost use Rattle.altsvc_frame.specs.FrameGrammar.{SpellsFrame, FrameRefusedAt};
 ghost use Rattle.altsvc_frame.specs.FrameWritten.{IsAltFrame};
-ghost use Rattle.origin_values.specs.AsciiReading.{ascii_origin};
 ghost use Rattle.altsvc_frame.specs.FrameReading.{read_field, read_on_zero, read_on_other, read_parts, read_octets, read_frame};
 
 use crate::{AltFrame, AltFrameRefusal};
-use alt_base::{NoMemory, Refused};
-use origin_values::{AsciiFault, Origin};
+use alt_base::Refused;
+use origin_values::{Origin, ascii_origin};
 use std::alloc::Global;
 
 /// What an ALTSVC frame on this stream with this payload says (RFC 7838 4): on stream 0 an origin, as its ASCII text
@@ -140,17 +139,5 @@ fn read_field(
             reason: AltFrameRefusal::BadField,
         }),
         Err(Refused::NoMemory) => Err(Refused::NoMemory),
-    }
-}
-
-// The origin whose ASCII text this is.
-fn ascii_origin(alloc: Global, text: &[u8]) -> Result<Option<Origin>, NoMemory>
-    requires { length text.now < 2 ^ 32 }
-    ensures { IfOk result (λ origin. origin ≡ ascii_origin text.now) }
-{
-    match Origin::parse_ascii(alloc, text) {
-        Ok(origin) => Ok(Some(origin)),
-        Err(AsciiFault::NotAscii) => Ok(None),
-        Err(AsciiFault::NoMemory) => Err(NoMemory),
     }
 }

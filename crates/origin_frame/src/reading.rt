@@ -9,7 +9,7 @@ ghost use Rattle.origin_frame.specs.declared.listed.Listed.{Listed};
 
 use crate::{Listed, OriginFrameRefusal, Origins};
 use alt_base::{NoMemory, Refused};
-use origin_values::{AsciiFault, Origin};
+use origin_values::ascii_origin;
 use std::alloc::Global;
 
 /// The flags with which a frame is ignored (RFC 8336 2.2): 1, 2, 4 and 8.
@@ -106,16 +106,4 @@ fn add_entry(alloc: Global, listed: &mut Listed, entry: &[u8]) -> Result<(), NoM
         None => listed.skipped += 1,
     }
     Ok(())
-}
-
-// The origin whose ASCII text this is.
-fn ascii_origin(alloc: Global, text: &[u8]) -> Result<Option<Origin>, NoMemory>
-    requires { length text.now < 2 ^ 32 }
-    ensures { IfOk result (λ origin. origin ≡ ascii_origin text.now) }
-{
-    match Origin::parse_ascii(alloc, text) {
-        Ok(origin) => Ok(Some(origin)),
-        Err(AsciiFault::NotAscii) => Ok(None),
-        Err(AsciiFault::NoMemory) => Err(NoMemory),
-    }
 }

@@ -22,7 +22,7 @@ pub use laws::{
     one_ascii_origin, one_host, one_origin, one_value_where_equal, origins_are_read,
     written_addresses_are_read_back, written_hosts_are_read_back, written_origins_are_read_back,
 };
-pub use origin::{Origin, same_origin};
+pub use origin::{Origin, ascii_origin, same_origin};
 pub use port::{digits_before, read_port_digits};
 pub use proto::{Proto, same_proto};
 pub use protos::Protos;

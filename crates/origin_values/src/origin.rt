@@ -3,6 +3,7 @@ ghost use Rattle.std.specs.Bool.{OnTrue};
 ghost use Rattle.origin_values.specs.Equality.{origin_eq};
 ghost use Rattle.alt_base.specs.Answers.{Answers, IfRefused};
 ghost use Rattle.origin_values.specs.AsciiOrigin.{SpellsAscii};
+ghost use Rattle.origin_values.specs.AsciiReading.{ascii_origin};
 ghost use Rattle.origin_values.specs.OriginGrammar.{SpellsOrigin, OriginRefusedAt};
 ghost use Rattle.origin_values.specs.Valid.{IsOrigin};
 ghost use Rattle.origin_values.specs.declared.refusal.AsciiFault.{AsciiFault};
@@ -85,6 +86,19 @@ impl Origin {
         text.extend_from_slice(self.host.write(alloc)?.as_slice())?;
         append_port(&mut text, alloc, self.scheme, self.port)?;
         Ok(ListOf::from_vec(text))
+    }
+}
+
+/// The origin whose ASCII text this is, and None exactly where no origin is written so (RFC 6454 6.2): what an entry of a
+/// frame's payload names, if it names one.
+pub fn ascii_origin(alloc: Global, text: &[u8]) -> Result<Option<Origin>, NoMemory>
+    requires { length text.now < 2 ^ 32 }
+    ensures { IfOk result (λ origin. origin ≡ ascii_origin text.now) }
+{
+    match Origin::parse_ascii(alloc, text) {
+        Ok(origin) => Ok(Some(origin)),
+        Err(AsciiFault::NotAscii) => Ok(None),
+        Err(AsciiFault::NoMemory) => Err(NoMemory),
     }
 }
 

@@ -1,6 +1,6 @@
 use Rattle.std.proofs.Common.{sym, ap, Err}
 use Rattle.origin_values.proofs.AsciiOrigins.{ascii_read, none_ascii}
-use Rattle.altsvc_frame.proofs.reading.ascii_origin.Goals as goal
+use Rattle.origin_values.proofs.origin.ascii_origin.Goals as goal
 
 pub returns-in-Ok : goal.returns-in-Ok
 returns-in-Ok c = sym (ascii_read c.args.text.now c.in-Ok.origin c.in-Ok.ensures.ok)
