@@ -1,0 +1,4 @@
+pub mod SameOrigins
+pub mod Joined
+pub mod Sets
+pub mod SetSizes
