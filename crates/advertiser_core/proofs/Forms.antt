@@ -1,6 +1,5 @@
 -- The values of what accepted acts announce and advertise are in their forms.
-use Rattle.std.proofs.Common.{◌≡◌, ℕ, ◌+◌, ◌≤◌, suc, Bool, true, false, cond, nat_eq, List, [], ◌∷◌, ◌++◌, length, Option, Some, None, refl, sym, subst, arith}
-use Rattle.std.specs.Option.{option_eq}
+use Rattle.std.proofs.Common.{ℕ, ◌≤◌, suc, Bool, true, false, cond, List, [], ◌∷◌, ◌++◌, length, sym, subst, arith}
 use Rattle.std.proofs.lemmas.List.{append-nil, length-append}
 use Rattle.origin_values.specs.Valid.{IsOrigin}
 use Rattle.origin_values.specs.Written.{origin_text}

@@ -1,4 +1,3 @@
-pub mod Origins
 pub mod Removed
 pub mod ServedLists
 pub mod OneList

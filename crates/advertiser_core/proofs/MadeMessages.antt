@@ -1,5 +1,5 @@
 -- The messages that accepted acts have made.
-use Rattle.std.proofs.Common.{◌≡◌, ℕ, ◌+◌, ◌^◌, ap, ◌<◌, ◌≤◌, zero, suc, Bool, true, false, cond, nat_eq, nat_lt, List, [], ◌∷◌, ◌++◌, length, slice_get, Option, Some, None, All, refl, sym, subst, ◌∙◌, arith}
+use Rattle.std.proofs.Common.{◌≡◌, ℕ, ◌^◌, ap, ◌<◌, ◌≤◌, zero, suc, Bool, true, false, cond, nat_eq, nat_lt, List, [], ◌∷◌, length, Some, None, All, refl, subst, arith}
 use Rattle.std.proofs.lemmas.List.Elements.{All-nil, All-push, All-get_or}
 use Rattle.std.proofs.lemmas.Option.{slice_get_within, get_or_from_slice_get}
 use Rattle.alt_base.proofs.Numbers.{false_lt}
@@ -8,12 +8,11 @@ use Rattle.h2_framing.specs.declared.frame.Frame.TheVariants.{Kept, Passed}
 use Rattle.h2_framing.proofs.Splitting.{written_frame}
 use Rattle.origin_frame.specs.PayloadWritten.{payload_of as origins_payload, frame_limit, capped}
 use Rattle.advertiser_core.specs.declared.message.Message.{Message}
-use Rattle.advertiser_core.specs.declared.fault.ServerFault.{ServerFault}
 use Rattle.advertiser_core.specs.declared.fault.ServerFault.TheVariants.{NotServed, Full, OverFrame}
 use Rattle.advertiser_core.specs.Acts.{Act, Serve, Unserve, Announce, Advertise}
 use Rattle.advertiser_core.specs.ServedList.{is_served, served_list}
 use Rattle.advertiser_core.specs.Messages.{framed, messages, numbered, value_payload, IsWhole}
-use Rattle.advertiser_core.specs.Refusals.{most_messages, message_refusal, refusal, AreAccepted}
+use Rattle.advertiser_core.specs.Refusals.{most_messages, message_refusal, AreAccepted}
 
 -- where a message isn't refused, its payload is within the limit
 pub short_where_made : (acts : List Act) (payload : List ℕ) → message_refusal acts payload ≡ None → length payload ≤ frame_limit

@@ -1,5 +1,5 @@
 -- The numbers of messages.
-use Rattle.std.proofs.Common.{◌≡◌, ℕ, ◌+◌, ◌≤◌, zero, suc, Bool, true, false, cond, nat_eq, List, [], ◌∷◌, ◌++◌, length, slice_get, Some, None, refl, sym, ap, subst, ◌∙◌, arith, add-one}
+use Rattle.std.proofs.Common.{◌≡◌, ℕ, ◌+◌, ◌≤◌, zero, suc, false, nat_eq, List, [], ◌∷◌, ◌++◌, length, slice_get, Some, refl, arith, add-one}
 use Rattle.std.proofs.lemmas.List.{length-append}
 use Rattle.alt_base.proofs.Numbers.{false_eq}
 use Rattle.origin_frame.specs.PayloadWritten.{payload_of as origins_payload}
@@ -7,7 +7,7 @@ use Rattle.advertiser_core.specs.declared.message.Message.{Message}
 use Rattle.advertiser_core.specs.Acts.{Act, Serve, Unserve, Announce, Advertise}
 use Rattle.advertiser_core.specs.ServedList.{is_served, served_list}
 use Rattle.advertiser_core.specs.Messages.{messages, numbered, value_payload}
-use Rattle.advertiser_core.specs.Refusals.{most_messages, message_refusal, AreAccepted}
+use Rattle.advertiser_core.specs.Refusals.{most_messages, AreAccepted}
 use Rattle.advertiser_core.proofs.MadeMessages.{made_where_served, room_where_made}
 
 -- what stands behind changes nothing in front

@@ -1,12 +1,12 @@
 -- There is one list of the served origins in their order.
-use Rattle.std.proofs.Common.{◌≡◌, ℕ, ◌+◌, ◌<◌, zero, suc, Bool, true, false, ◌||◌, List, [], ◌∷◌, length, Option, Some, None, All, refl, ap, sym, subst, ◌∙◌, arith, true≢false}
+use Rattle.std.proofs.Common.{◌≡◌, ℕ, zero, suc, Bool, true, false, ◌||◌, List, [], ◌∷◌, Option, Some, None, All, refl, ap, sym, subst, ◌∙◌, arith, true≢false}
 use Rattle.std.specs.List.{list_any, AllPairs}
 use Rattle.std.proofs.lemmas.List.Elements.{All-head, All-tail}
 use Rattle.origin_values.specs.Equality.{origin_eq}
 use Rattle.origin_values.specs.declared.origin.Origin.{Origin}
 use Rattle.advertiser_core.specs.Acts.{Act}
 use Rattle.advertiser_core.specs.ServedList.{served_since, served_list, IsEarlier, IsServedList}
-use Rattle.advertiser_core.proofs.Origins.{one_origin, own_test, turned_test}
+use Rattle.origin_values.proofs.Equal.{one_origin, origin_self, turned_origin}
 use Rattle.advertiser_core.proofs.ServedLists.{IsEarlierIn, list_is}
 
 not_earlier_both : (s t : Option ℕ) → IsEarlier s t → IsEarlier t s → ⊥
@@ -47,8 +47,8 @@ module _ (acts : List Act) where
       by_test : (t : Bool) → origin_eq x y ≡ t → t ≡ true
       by_test true e = refl
       by_test false e =
-          let x_there = among x y ys (list_any (origin_eq x) (x ∷ xs)) e (same x) (ap (λ u. u || list_any (origin_eq x) xs) (own_test x)) in
-          let y_there = among y x xs (list_any (origin_eq y) (y ∷ ys)) (turned_test y x ∙ e) (sym (same y)) (ap (λ u. u || list_any (origin_eq y) ys) (own_test y)) in
+          let x_there = among x y ys (list_any (origin_eq x) (x ∷ xs)) e (same x) (ap (λ u. u || list_any (origin_eq x) xs) (origin_self x)) in
+          let y_there = among y x xs (list_any (origin_eq y) (y ∷ ys)) (turned_origin y x ∙ e) (sym (same y)) (ap (λ u. u || list_any (origin_eq y) ys) (origin_self y)) in
           absurd (not_earlier_both (served_since acts x) (served_since acts y)
           (earlier_than x y xs (head_first x xs h) y_there) (earlier_than y x ys (head_first y ys k) x_there))
 
@@ -63,8 +63,8 @@ module _ (acts : List Act) where
   one_list : (xs ys : List Origin) → AllPairs (IsEarlierIn acts) xs → AllPairs (IsEarlierIn acts) ys
       → ((o : Origin) → list_any (origin_eq o) xs ≡ list_any (origin_eq o) ys) → xs ≡ ys
   one_list [] [] h k same = refl
-  one_list [] (y ∷ ys) h k same = absurd (true≢false (sym (same y ∙ ap (λ u. u || list_any (origin_eq y) ys) (own_test y))))
-  one_list (x ∷ xs) [] h k same = absurd (true≢false (sym (sym (same x) ∙ ap (λ u. u || list_any (origin_eq x) xs) (own_test x))))
+  one_list [] (y ∷ ys) h k same = absurd (true≢false (sym (same y ∙ ap (λ u. u || list_any (origin_eq y) ys) (origin_self y))))
+  one_list (x ∷ xs) [] h k same = absurd (true≢false (sym (sym (same x) ∙ ap (λ u. u || list_any (origin_eq x) xs) (origin_self x))))
   one_list (x ∷ xs) (y ∷ ys) h k same =
       let head : y ≡ x = sym ((one_origin x y).0 (one_head x y xs ys h k same)) in
       let l : AllPairs (IsEarlierIn acts) (x ∷ ys) = subst (λ z. AllPairs (IsEarlierIn acts) (z ∷ ys)) head k in

@@ -4,7 +4,7 @@ use Rattle.std.specs.List.{list_any}
 use Rattle.std.specs.Set.{remove_key}
 use Rattle.origin_values.specs.Equality.{origin_eq}
 use Rattle.origin_values.specs.declared.origin.Origin.{Origin}
-use Rattle.advertiser_core.proofs.Origins.{one_origin, turned_test}
+use Rattle.origin_values.proofs.Equal.{one_origin}
 
 -- the others
 abbrev pub others : Origin → List Origin → List Origin

@@ -1,5 +1,5 @@
 -- What one more act makes of the list of served origins.
-use Rattle.std.proofs.Common.{◌≡◌, ℕ, ◌+◌, ◌<◌, ◌≤◌, zero, suc, Bool, true, false, cond, ◌||◌, not, nat_eq, List, [], ◌∷◌, ◌++◌, filter, length, Option, Some, None, is_some, All, get_or, subst, refl, ap, sym, ◌∙◌, arith, true≢false}
+use Rattle.std.proofs.Common.{◌≡◌, ℕ, ◌<◌, suc, Bool, true, false, cond, ◌||◌, not, nat_eq, List, [], ◌∷◌, ◌++◌, length, Option, Some, None, is_some, All, get_or, subst, refl, ap, sym, ◌∙◌, arith, true≢false}
 use Rattle.std.specs.List.{list_any, AllPairs}
 use Rattle.std.proofs.lemmas.List.Quantifiers.{all_pairs_push}
 use Rattle.std.specs.Option.{unwrap_or, option_eq}
@@ -13,7 +13,7 @@ use Rattle.origin_values.specs.declared.origin.Origin.{Origin}
 use Rattle.altsvc_grammar.specs.declared.alt_svc.AltSvc.{AltSvc}
 use Rattle.advertiser_core.specs.Acts.{Act, Serve, Unserve, Announce, Advertise}
 use Rattle.advertiser_core.specs.ServedList.{is_served, served_since, served_since_first, served_list, IsEarlier, IsServedList}
-use Rattle.advertiser_core.proofs.Origins.{one_origin, own_test, turned_test}
+use Rattle.origin_values.proofs.Equal.{one_origin, origin_self, turned_origin}
 use Rattle.advertiser_core.proofs.Removed.{others, removed_behind, removed_last, all_others, not_among_others, among_others}
 
 -- an origin is served exactly where it is served since some act
@@ -89,7 +89,7 @@ list_served acts o =
     before = same_list (Serve o ∷ acts) acts acts elsewhere
 
     here : since_is (served_since (Serve o ∷ acts) o) (length acts) ≡ nat_eq (unwrap_or (served_since acts o) (length acts)) (length acts)
-    here = ap (λ t. since_is (cond t (Some (unwrap_or (served_since acts o) (length acts))) (served_since acts o)) (length acts)) (own_test o)
+    here = ap (λ t. since_is (cond t (Some (unwrap_or (served_since acts o) (length acts))) (served_since acts o)) (length acts)) (origin_self o)
 
     by_since : (s : Option ℕ) → served_since acts o ≡ s → served_since_first acts acts ++ cond (nat_eq (unwrap_or (served_since acts o) (length acts)) (length acts)) (o ∷ []) [] ≡ cond (is_served acts o) (served_since_first acts acts) (served_since_first acts acts ++ o ∷ [])
     by_since None e =
@@ -112,9 +112,9 @@ others_first acts (Serve p ∷ first) o =
     here = by_tests (origin_eq p o) (since_is (served_since acts p) (length first)) refl refl
       where
         by_tests : (t s : Bool) → origin_eq p o ≡ t → since_is (served_since acts p) (length first) ≡ s → cond (since_is (cond t None (served_since acts p)) (length first)) (p ∷ []) [] ≡ others o (cond s (p ∷ []) [])
-        by_tests true true e f = rw (turned_test o p ∙ e) refl
+        by_tests true true e f = rw (turned_origin o p ∙ e) refl
         by_tests true false e f = refl
-        by_tests false true e f = rw (turned_test o p ∙ e, f) refl
+        by_tests false true e f = rw (turned_origin o p ∙ e, f) refl
         by_tests false false e f = rw f refl
 others_first acts (Unserve p ∷ first) o = others_first acts first o
 others_first acts (Announce ∷ first) o = others_first acts first o

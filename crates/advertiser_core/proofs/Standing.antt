@@ -1,37 +1,33 @@
 -- What becomes of the lists of acts that an advertiser stands for.
-use Rattle.std.proofs.Common.{◌≡◌, ℕ, ◌+◌, ◌<◌, ◌≤◌, Bool, true, false, cond, nat_eq, nat_lt, List, [], ◌∷◌, ◌++◌, length, Option, Some, None, refl, ap, sym, ◌∙◌, arith, true≢false, subst}
+use Rattle.std.proofs.Common.{◌≡◌, ℕ, ◌≤◌, Bool, true, false, cond, nat_eq, nat_lt, List, [], ◌∷◌, ◌++◌, length, Some, None, refl, ap, sym, ◌∙◌, subst}
 use Rattle.std.specs.List.{list_any}
 use Rattle.std.specs.Set.{remove_key}
 use Rattle.indexmap.specs.IndexSet.{insert_key}
-use Rattle.origin_values.specs.Equality.{origin_eq}
 use Rattle.origin_values.specs.declared.origin.Origin.{Origin}
 use Rattle.origin_values.specs.contracts.origin.OriginPartialEq.TheImpl as origins
 use Rattle.advertiser_core.specs.declared.advertiser.Advertiser.{Advertiser}
-use Rattle.advertiser_core.specs.Acts.{Act, Serve, Unserve, Announce, Advertise}
+use Rattle.advertiser_core.specs.Acts.{Act, Serve, Unserve, Advertise}
 use Rattle.advertiser_core.specs.ServedList.{is_served, served_list}
 use Rattle.advertiser_core.specs.declared.message.Message.{Message}
-use Rattle.advertiser_core.specs.declared.fault.ServerFault.{ServerFault}
-use Rattle.advertiser_core.specs.declared.fault.ServerFault.TheVariants.{NoMemory, NotServed, Full, OverFrame}
-use Rattle.origin_frame.specs.PayloadWritten.{frame_limit, capped}
-use Rattle.altsvc_grammar.specs.Valid.{IsAltSvc}
+use Rattle.advertiser_core.specs.declared.fault.ServerFault.TheVariants.{NotServed, Full, OverFrame}
+use Rattle.origin_frame.specs.PayloadWritten.{frame_limit}
 use Rattle.altsvc_grammar.specs.declared.alt_svc.AltSvc.{AltSvc}
-use Rattle.origin_values.specs.Valid.{IsOrigin}
-use Rattle.alt_base.proofs.Numbers.{true_eq, lt_true, lt_false, false_lt, true_lt, false_eq}
-use Rattle.advertiser_core.specs.Messages.{messages, framed, value_payload}
-use Rattle.advertiser_core.specs.Refusals.{most_messages, IsFull, IsOver, message_refusal, refusal, AreAccepted}
+use Rattle.alt_base.proofs.Numbers.{lt_true, lt_false}
+use Rattle.advertiser_core.specs.Messages.{messages, value_payload}
+use Rattle.advertiser_core.specs.Refusals.{most_messages, IsOver, message_refusal, refusal}
 use Rattle.advertiser_core.specs.Refusals.{fault_of}
-use Rattle.advertiser_core.specs.StandsFor.{StandsFor, Takes, Refuses}
+use Rattle.advertiser_core.specs.StandsFor.{StandsFor, Refuses}
 use Rattle.std.proofs.Common.{Result, Ok, Err}
 use Rattle.std.specs.Result.{IfErr, IsErrAnd}
 use Rattle.origin_frame.specs.PayloadWritten.{IfOver}
 use Rattle.origin_frame.specs.declared.over_fault.OverFault.{OverFault}
 use Rattle.origin_frame.specs.declared.over_fault.OverFault.TheVariants as over
-use Rattle.advertiser_core.proofs.Origins.{same_test}
+use Rattle.origin_values.proofs.Equal.{same_origin}
 use Rattle.advertiser_core.proofs.ServedLists.{listed_where_served, list_served, list_removed}
 
 -- what is found among the kept origins is served
 pub found_where_served : (advertiser : Advertiser) (acts : List Act) (o : Origin) → StandsFor advertiser acts → list_any ((origins.eq-value).it o) advertiser.served.keys ≡ is_served acts o
-found_where_served advertiser acts o s = (λ i. list_any (same_test i o) (s.served i)) ∙ listed_where_served acts o
+found_where_served advertiser acts o s = (λ i. list_any (same_origin i o) (s.served i)) ∙ listed_where_served acts o
 
 -- an inserted origin keeps its place or goes last
 pub inserted_is_listed : (advertiser : Advertiser) (acts : List Act) (o : Origin) → StandsFor advertiser acts → insert_key (origins.eq-value).it advertiser.served.keys o ≡ served_list (Serve o ∷ acts)
@@ -40,7 +36,7 @@ inserted_is_listed advertiser acts o s =
 
 -- a removed one isn't listed any more
 pub removed_is_unlisted : (advertiser : Advertiser) (acts : List Act) (o : Origin) → StandsFor advertiser acts → remove_key ((origins.eq-value).it o) advertiser.served.keys ≡ served_list (Unserve o ∷ acts)
-removed_is_unlisted advertiser acts o s = (λ i. remove_key (same_test i o) (s.served i)) ∙ list_removed acts o
+removed_is_unlisted advertiser acts o s = (λ i. remove_key (same_origin i o) (s.served i)) ∙ list_removed acts o
 
 -- whether a message has room, by what is kept
 pub full_where_kept : (advertiser : Advertiser) (acts : List Act) (full : Bool) → StandsFor advertiser acts → nat_eq (length advertiser.messages.made) most_messages ≡ full → nat_eq (length (messages acts)) most_messages ≡ full

@@ -1,5 +1,5 @@
 -- What a server is told to do, once it is accepted. A list of acts has the newest first.
-use Rattle.std.specs.Prelude.{List, [], ◌∷◌}
+use Rattle.std.specs.Prelude.{List}
 use Rattle.origin_values.specs.Valid.{IsOrigin}
 use Rattle.origin_values.specs.declared.origin.Origin.{Origin}
 use Rattle.altsvc_grammar.specs.Valid.{IsAltSvc}

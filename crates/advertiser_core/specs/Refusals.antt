@@ -1,5 +1,5 @@
 -- Which acts are refused, and which lists of acts are accepted.
-use Rattle.std.specs.Prelude.{◌≡◌, ◌<◌, ℕ, true, false, nat_eq, nat_lt, List, [], ◌∷◌, length, Option, None, Some, if◌then◌else◌}
+use Rattle.std.specs.Prelude.{◌≡◌, ◌<◌, ℕ, nat_eq, nat_lt, List, [], ◌∷◌, length, Option, None, Some, if◌then◌else◌}
 use Rattle.origin_frame.specs.PayloadWritten.{payload_of as origins_payload, frame_limit, capped}
 use Rattle.origin_frame.specs.declared.over_fault.OverFault.{OverFault}
 use Rattle.origin_frame.specs.declared.over_fault.OverFault.TheVariants as over

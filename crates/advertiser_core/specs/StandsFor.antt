@@ -1,5 +1,5 @@
 -- Which lists of accepted acts a server stands for, and what its calls say of each of them.
-use Rattle.std.specs.Prelude.{◌≡◌, ℕ, List, ◌∷◌, Option, Some, if◌then◌else◌}
+use Rattle.std.specs.Prelude.{◌≡◌, List, ◌∷◌, Some, if◌then◌else◌}
 use Rattle.origin_values.specs.declared.origin.Origin.{Origin}
 use Rattle.advertiser_core.specs.declared.advertiser.Advertiser.{Advertiser}
 use Rattle.advertiser_core.specs.declared.answer.Answer.{Answer}

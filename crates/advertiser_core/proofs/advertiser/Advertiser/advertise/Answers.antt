@@ -1,8 +1,8 @@
-use Rattle.std.proofs.Common.{◌≡◌, ℕ, List, subst, ◌++◌, ◌∷◌, [], true, false, ap, sym, ◌∙◌}
+use Rattle.std.proofs.Common.{◌≡◌, ℕ, List, subst, ◌++◌, ◌∷◌, [], true, false, sym, ◌∙◌}
 use Rattle.advertiser_core.specs.Acts.{Act, Advertise}
 use Rattle.advertiser_core.specs.Refusals.{IsOver}
 use Rattle.advertiser_core.specs.StandsFor.{StandsFor, Refuses}
-use Rattle.advertiser_core.specs.Messages.{value_message, value_payload, framed}
+use Rattle.advertiser_core.specs.Messages.{value_payload, framed}
 use Rattle.advertiser_core.proofs.ServedLists.{list_advertised}
 use Rattle.advertiser_core.proofs.Standing.{found_where_served, full_where_kept, refused_as_full, refused_as_over, not_refused, by_served, refused_by_fault, if_err, within_along}
 use Rattle.advertiser_core.proofs.advertiser.Advertiser.advertise.Goals as goal

@@ -1,4 +1,4 @@
-use Rattle.std.proofs.Common.{◌≡◌, ◌++◌, ◌∷◌, [], false, ap, sym, ◌∙◌, refl}
+use Rattle.std.proofs.Common.{◌≡◌, ◌++◌, ◌∷◌, [], false, ap, sym, ◌∙◌}
 use Rattle.origin_frame.specs.PayloadWritten.{payload_of as origins_payload}
 use Rattle.advertiser_core.specs.ServedList.{served_list}
 use Rattle.advertiser_core.specs.Messages.{framed}

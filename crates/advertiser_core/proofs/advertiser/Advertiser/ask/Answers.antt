@@ -1,5 +1,4 @@
 use Rattle.std.proofs.Common.{◌≡◌, true, false, cond, sym, ap, ◌∙◌}
-use Rattle.advertiser_core.specs.declared.answer.Answer.{Answer}
 use Rattle.advertiser_core.specs.declared.answer.Answer.TheVariants.{Serve, Misdirected}
 use Rattle.advertiser_core.specs.ServedList.{is_served}
 use Rattle.advertiser_core.proofs.Standing.{found_where_served}
