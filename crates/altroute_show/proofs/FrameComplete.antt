@@ -10,18 +10,13 @@ use Rattle.altroute_show.specs.Seen.{Seen}
 use Rattle.altroute_show.specs.FrameOutcome.{AtTooLarge, AtUnfinished, AtLongInput, limited_outcome, frame_outcome}
 use Rattle.altroute_show.specs.FrameEnds.{FrameEnds, AreComplete}
 use Rattle.altroute_show.proofs.FrameAnswers.{never_long}
+use Rattle.alt_base.proofs.Numbers.{lt_true, true_lt}
 use Rattle.alt_base.proofs.Variants.{some_none}
 
 pub take_front : (n : ℕ) (xs ys : List ℕ) → (t : List ℕ) × (take n (xs ++ ys) ≡ take n xs ++ t)
 take_front zero xs ys = ([], refl)
 take_front (suc n) [] ys = (take (suc n) ys, refl)
 take_front (suc n) (x ∷ xs) ys = let r = take_front n xs ys in (r.0, ap (λ zs. x ∷ zs) r.1)
-
-pub above_of : (n : ℕ) → nat_lt 67108864 n ≡ true → 67108864 < n
-above_of n h = grind arith
-
-pub of_above : (n : ℕ) → 67108864 < n → nat_lt 67108864 n ≡ true
-of_above n h = grind arith
 
 -- a length above 16,384 stops it, whatever octets follow
 some_stop : (first : List ℕ) (o : Option ℕ) (more : Bool) → (limited_outcome first o more false).stop ≡ Some AtTooLarge → (n : ℕ) × (o ≡ Some n)
@@ -44,7 +39,7 @@ is_long octets stop = by_test (nat_lt 67108864 (length octets)) refl
     first = take 67108864 octets
 
     by_test : (b : Bool) → nat_lt 67108864 (length octets) ≡ b → 67108864 < length octets
-    by_test true is = above_of (length octets) is
+    by_test true is = true_lt 67108864 (length octets) is
     by_test false is = absurd (never_long first (too_large_of first) (sym (ap (λ b. (limited_outcome first (too_large_of first) b false).stop) is) ∙ stop))
 
 never_none : (first : List ℕ) (o : Option ℕ) (ended : Bool) → (limited_outcome first o true ended).stop ≡ None → ⊥
@@ -54,7 +49,7 @@ never_none first (Some n) ended e = cc
 long_stops : (octets : List ℕ) → 67108864 < length octets → (frame_outcome octets true).stop ≡ None → ⊥
 long_stops octets long none =
     let first : List ℕ = take 67108864 octets in
-    never_none first (too_large_of first) true (sym (ap (λ b. (limited_outcome first (too_large_of first) b true).stop) (of_above (length octets) long)) ∙ none)
+    never_none first (too_large_of first) true (sym (ap (λ b. (limited_outcome first (too_large_of first) b true).stop) (lt_true 67108864 (length octets) long)) ∙ none)
 
 -- what was taken is a front of the input
 not_too_large : (input octets : List ℕ) (left : Option (List ℕ)) → Some input ≡ with_front octets left → (frame_outcome octets false).stop ≡ Some AtTooLarge → (frame_outcome input true).stop ≡ None → ⊥

@@ -4,19 +4,14 @@ use Rattle.std.proofs.lemmas.List.{length-append, take_all, take_at}
 use Rattle.h2_framing.specs.Streams.{rest_of, too_large_of}
 use Rattle.altroute_show.specs.Given.{refused_at}
 use Rattle.altroute_show.specs.FrameOutcome.{AtTooLarge, AtUnfinished, AtLongInput, FrameOutcome, frames_text, place_behind, is_some_octet, goes_on, stops, end_outcome, limited_outcome, frame_outcome}
+use Rattle.alt_base.proofs.Numbers.{lt_true, lt_false}
 use Rattle.altroute_show.proofs.FrameSplits.{text_more}
-
-not_above : (n : ℕ) → n ≤ 67108864 → nat_lt 67108864 n ≡ false
-not_above n h = grind arith
-
-above : (n : ℕ) → 67108864 < n → nat_lt 67108864 n ≡ true
-above n h = grind arith
 
 -- within the limit of an input
 pub within : (octets : List ℕ) (ended : Bool) → length octets ≤ 67108864 → frame_outcome octets ended ≡ limited_outcome octets (too_large_of octets) false ended
 within octets ended fits =
     ap (λ xs. limited_outcome xs (too_large_of xs) (nat_lt 67108864 (length octets)) ended) (take_all 67108864 octets fits)
-    ∙ ap (λ b. limited_outcome octets (too_large_of octets) b ended) (not_above (length octets) fits)
+    ∙ ap (λ b. limited_outcome octets (too_large_of octets) b ended) (lt_false 67108864 (length octets) fits)
 
 pub going : (octets : List ℕ) → length octets ≤ 67108864 → too_large_of octets ≡ None → frame_outcome octets false ≡ goes_on (frames_text octets)
 going octets fits none = within octets false fits ∙ ap (λ o. limited_outcome octets o false false) none
@@ -50,7 +45,7 @@ pub past : (first more : List ℕ) (ended : Bool) → length first ≡ 67108864 
 past first more ended full some =
     let long : 67108864 < length (first ++ more) = omega (arith, length-append first more, full, some) in
     ap (λ xs. limited_outcome xs (too_large_of xs) (nat_lt 67108864 (length (first ++ more))) ended) (take_at first more 67108864 full)
-    ∙ ap (λ b. limited_outcome first (too_large_of first) b ended) (above (length (first ++ more)) long)
+    ∙ ap (λ b. limited_outcome first (too_large_of first) b ended) (lt_true 67108864 (length (first ++ more)) long)
 
 -- the octets within the limit have the same text
 text_same : (first : List ℕ) (o : Option ℕ) → (limited_outcome first o true false).text ≡ (limited_outcome first o false false).text

@@ -11,7 +11,8 @@ use Rattle.altroute_show.specs.FrameLines.{frame_lines}
 use Rattle.altroute_show.specs.FrameOutcome.{FrameStop, AtTooLarge, AtUnfinished, FrameOutcome, frames_text, place_behind, is_some_octet, goes_on, stops, limited_outcome, frame_outcome}
 use Rattle.altroute_show.proofs.FrameSplits.{brought_place, brought_text, text_more}
 use Rattle.altroute_show.proofs.FrameOutcomes.{too_large, ended_whole, ended_within}
-use Rattle.altroute_show.proofs.FrameComplete.{take_front, of_above, above_of}
+use Rattle.alt_base.proofs.Numbers.{lt_true, true_lt}
+use Rattle.altroute_show.proofs.FrameComplete.{take_front}
 
 -- by how the octets split
 the_split : (octets rest : List ℕ) (frames : List Frame) (o : Option ℕ) → (let s : Split = record { frames = frames; rest = rest; too_large = o } in s) ≡ split_of octets → (frames_text octets ≡ frame_lines frames) × (rest_of octets ≡ rest) × (too_large_of octets ≡ o)
@@ -62,9 +63,9 @@ long_same octets more ended long =
     let first : List ℕ = take 67108864 octets in
     let longer : 67108864 < length (octets ++ more) = omega (arith, length-append octets more, long) in
     ap (λ xs. limited_outcome xs (too_large_of xs) (nat_lt 67108864 (length (octets ++ more))) ended) (take-append-le 67108864 octets more (omega arith))
-    ∙ ap (λ b. limited_outcome first (too_large_of first) b ended) (of_above (length (octets ++ more)) longer)
+    ∙ ap (λ b. limited_outcome first (too_large_of first) b ended) (lt_true 67108864 (length (octets ++ more)) longer)
     ∙ far_same first (too_large_of first) ended
-    ∙ sym (ap (λ b. limited_outcome first (too_large_of first) b false) (of_above (length octets) long))
+    ∙ sym (ap (λ b. limited_outcome first (too_large_of first) b false) (lt_true 67108864 (length octets) long))
 
 pub stop_stays : (octets more : List ℕ) (ended : Bool) (why : FrameStop) → (frame_outcome octets false).stop ≡ Some why → frame_outcome (octets ++ more) ended ≡ frame_outcome octets false
 stop_stays octets more ended why stop = by_length (too_large_of (take 67108864 octets)) refl (nat_lt 67108864 (length octets)) refl
@@ -74,7 +75,7 @@ stop_stays octets more ended why stop = by_length (too_large_of (take 67108864 o
 
     by_length : (o : Option ℕ) → too_large_of first ≡ o → (b : Bool) → nat_lt 67108864 (length octets) ≡ b → frame_outcome (octets ++ more) ended ≡ frame_outcome octets false
     by_length (Some n) some b is = too_large_same octets more ended n some
-    by_length None none true is = long_same octets more ended (above_of (length octets) is)
+    by_length None none true is = long_same octets more ended (true_lt 67108864 (length octets) is)
     by_length None none false is =
         let e : frame_outcome octets false ≡ goes_on (frames_text first) = ap (λ o. limited_outcome first o (nat_lt 67108864 (length octets)) false) none ∙ ap (λ b. limited_outcome first None b false) is in
         let bad : None ≡ Some why = sym (ap (λ (o : FrameOutcome). o.stop) e) ∙ stop in
@@ -104,7 +105,7 @@ text_grows octets more ended = by_length (too_large_of (take 67108864 octets)) r
 
     by_length : (o : Option ℕ) → too_large_of first ≡ o → (b : Bool) → nat_lt 67108864 (length octets) ≡ b → (extra : List ℕ) × ((frame_outcome (octets ++ more) ended).text ≡ (frame_outcome octets false).text ++ extra)
     by_length (Some n) some b is = same_grows (frame_outcome (octets ++ more) ended) (frame_outcome octets false) (too_large_same octets more ended n some)
-    by_length None none true is = same_grows (frame_outcome (octets ++ more) ended) (frame_outcome octets false) (long_same octets more ended (above_of (length octets) is))
+    by_length None none true is = same_grows (frame_outcome (octets ++ more) ended) (frame_outcome octets false) (long_same octets more ended (true_lt 67108864 (length octets) is))
     by_length None none false is =
         let t = take_front 67108864 octets more in
         let all : List ℕ = take 67108864 (octets ++ more) in

@@ -4,6 +4,7 @@ use Rattle.byteorder.specs.Endian.{big_bytes}
 use Rattle.hex.specs.Hex.{IsBytes, encode_lower}
 use Rattle.hex.proofs.HexLemmas.{decode_of-encode_lower}
 use Rattle.dns_names.specs.Names.{AreBytes, AreNameBytes, AreLabels, IsSized, labels_octets, wire_form}
+use Rattle.dns_names.proofs.Bytes.{bytes_both}
 use Rattle.svcb_wire.specs.declared.param.Param.{Param}
 use Rattle.svcb_wire.specs.declared.param.Param.TheVariants.{Mandatory, Alpn, NoDefaultAlpn, Port, V4Hint, Other, V6Hint}
 use Rattle.svcb_wire.specs.declared.svcb.Svcb.{Svcb}
@@ -12,10 +13,6 @@ use Rattle.svcb_wire.specs.Octets.{keys_octets, ids_octets, addresses_octets, ke
 use Rattle.svcb_wire.specs.Records.{IsRecord, record_octets}
 use Rattle.altroute_show.specs.InputTexts.{SpellsHex}
 use Rattle.altroute_show.proofs.InputTexts.{hex_spelled}
-
-are_both : (xs ys : List ℕ) → AreBytes xs → AreBytes ys → AreBytes (xs ++ ys)
-are_both [] ys are more = more
-are_both (x ∷ xs) ys are more = (are.0, are_both xs ys are.1 more)
 
 pair_bytes : (n : ℕ) → AreBytes (big_bytes 2 n)
 pair_bytes n = (omega arith, (omega arith, tt))
@@ -29,21 +26,21 @@ small label sized = let most : length label ≤ 63 = sized.most in omega (arith,
 
 labels_bytes : (labels : List (List ℕ)) → AreLabels labels → AreBytes (labels_octets labels)
 labels_bytes [] are = tt
-labels_bytes (label ∷ labels) are = (small label are.0.sized, are_both label (labels_octets labels) (label_bytes label are.0.bytes) (labels_bytes labels are.1))
+labels_bytes (label ∷ labels) are = (small label are.0.sized, bytes_both label (labels_octets labels) (label_bytes label are.0.bytes) (labels_bytes labels are.1))
 
 keys_bytes : (keys : List ℕ) → AreBytes (keys_octets keys)
 keys_bytes [] = tt
-keys_bytes (key ∷ keys) = are_both (big_bytes 2 key) (keys_octets keys) (pair_bytes key) (keys_bytes keys)
+keys_bytes (key ∷ keys) = bytes_both (big_bytes 2 key) (keys_octets keys) (pair_bytes key) (keys_bytes keys)
 
 ids_bytes : (ids : List (List ℕ)) → AreIds ids → AreBytes (ids_octets ids)
 ids_bytes [] are = tt
 ids_bytes (id ∷ ids) are =
     let most : length id ≤ 255 = are.0.most in
-    (omega (arith, most), are_both id (ids_octets ids) are.0.bytes (ids_bytes ids are.1))
+    (omega (arith, most), bytes_both id (ids_octets ids) are.0.bytes (ids_bytes ids are.1))
 
 addresses_bytes : (size : ℕ) (addresses : List (List ℕ)) → AreAddresses size addresses → AreBytes (addresses_octets addresses)
 addresses_bytes size [] are = tt
-addresses_bytes size (address ∷ addresses) are = are_both address (addresses_octets addresses) are.0.bytes (addresses_bytes size addresses are.1)
+addresses_bytes size (address ∷ addresses) are = bytes_both address (addresses_octets addresses) are.0.bytes (addresses_bytes size addresses are.1)
 
 value_bytes : (param : Param) → HasForm param → AreBytes (value_of param)
 value_bytes (Mandatory keys) form = keys_bytes keys
@@ -56,18 +53,18 @@ value_bytes (V6Hint addresses) form = addresses_bytes 16 addresses form.1
 
 param_bytes : (param : Param) → HasForm param → AreBytes (param_octets param)
 param_bytes param form =
-    are_both (big_bytes 2 (key_of param)) (big_bytes 2 (length (value_of param)) ++ value_of param) (pair_bytes (key_of param))
-    (are_both (big_bytes 2 (length (value_of param))) (value_of param) (pair_bytes (length (value_of param))) (value_bytes param form))
+    bytes_both (big_bytes 2 (key_of param)) (big_bytes 2 (length (value_of param)) ++ value_of param) (pair_bytes (key_of param))
+    (bytes_both (big_bytes 2 (length (value_of param))) (value_of param) (pair_bytes (length (value_of param))) (value_bytes param form))
 
 params_bytes : (least : ℕ) (params : List Param) → AreParams least params → AreBytes (params_octets params)
 params_bytes least [] are = tt
-params_bytes least (param ∷ params) are = are_both (param_octets param) (params_octets params) (param_bytes param are.1.form) (params_bytes (suc (key_of param)) params are.2)
+params_bytes least (param ∷ params) are = bytes_both (param_octets param) (params_octets params) (param_bytes param are.1.form) (params_bytes (suc (key_of param)) params are.2)
 
 record_bytes : (value : Svcb) → IsRecord value → AreBytes (record_octets value)
 record_bytes value is =
-    are_both (big_bytes 2 value.priority) (wire_form value.target ++ params_octets value.params) (pair_bytes value.priority)
-    (are_both (wire_form value.target) (params_octets value.params)
-    (are_both (labels_octets value.target) (0 ∷ []) (labels_bytes value.target is.target.labels_are) (omega arith, tt))
+    bytes_both (big_bytes 2 value.priority) (wire_form value.target ++ params_octets value.params) (pair_bytes value.priority)
+    (bytes_both (wire_form value.target) (params_octets value.params)
+    (bytes_both (labels_octets value.target) (0 ∷ []) (labels_bytes value.target is.target.labels_are) (omega arith, tt))
     (params_bytes 0 value.params is.params))
 
 at_each : (xs : List ℕ) → AreBytes xs → IsBytes xs

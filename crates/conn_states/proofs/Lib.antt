@@ -1,4 +1,3 @@
-pub mod SameOrigins
 pub mod Joined
 pub mod Sets
 pub mod SetSizes

@@ -6,7 +6,7 @@ use Rattle.origin_values.specs.Equality.{origin_eq}
 use Rattle.origin_values.specs.contracts.origin.OriginPartialEq.TheImpl as origins
 use Rattle.route_events.specs.Distinct.{are_apart}
 use Rattle.conn_states.specs.Origins.{is_among}
-use Rattle.conn_states.proofs.SameOrigins.{same_test, turned}
+use Rattle.origin_values.proofs.Equal.{same_origin as same_test, turned_origin as turned}
 
 -- what is looked up
 pub looked_up : (o : Origin) (ks : List Origin) → list_any ((origins.eq-value).it o) ks ≡ is_among ks o

@@ -1,8 +1,7 @@
 ghost use Rattle.std.specs.Prelude.{◌≡◌, ◌<◌, ◌≤◌, None, Some, true, false, is_some, IfOk, OnOk, OnErr, if◌then◌else◌, ◌||◌};
 ghost use Rattle.origin_values.specs.Equality.{origin_eq};
-ghost use Rattle.route_events.specs.Advertisements.{is_one_of};
 ghost use Rattle.route_events.specs.Authority.{authorises, authorises_https, authorises_http, rests_on, may_coalesce, is_https};
-ghost use Rattle.route_events.specs.Connections.{is_http11, is_none_out, without as without_request};
+ghost use Rattle.route_events.specs.Connections.{is_http11, is_none_out, is_one_of, without as without_request};
 ghost use Rattle.route_events.specs.Distinct.{are_apart};
 ghost use Rattle.route_events.specs.Records.{is_occupied};
 ghost use Rattle.conn_states.specs.Changes.{begun, with_listed, with_misdirected, unbound, with_sent, with_answered, leave};

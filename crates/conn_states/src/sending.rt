@@ -1,6 +1,6 @@
 //! A permit, its send and the carrying, in their order.
 ghost use Rattle.std.specs.Prelude.{◌≡◌, ◌<◌, false, IfOk, OnErr, if◌then◌else◌};
-ghost use Rattle.route_events.specs.Advertisements.{is_one_of};
+ghost use Rattle.route_events.specs.Connections.{is_one_of};
 ghost use Rattle.route_events.specs.Authority.{authorises};
 ghost use Rattle.route_events.specs.Records.{is_occupied};
 ghost use Rattle.conn_states.specs.Changes.{with_sent};

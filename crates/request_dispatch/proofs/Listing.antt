@@ -30,14 +30,6 @@ find_map {X} p f (x ∷ xs) = by_test (p (f x)) (find_map p f xs)
     by_test true rest = refl
     by_test false rest = rest
 
-pub find_first : {X : Type 0} (p : X → Bool) (xs : List X) → find p xs ≡ first_of (filter p xs)
-find_first p [] = refl
-find_first {X} p (x ∷ xs) = by_test (p x) (find_first p xs)
-  where
-    by_test : (b : Bool) → find p xs ≡ first_of (filter p xs) → cond b (Some x) (find p xs) ≡ first_of (cond b (x ∷ filter p xs) (filter p xs))
-    by_test true rest = refl
-    by_test false rest = rest
-
 pub first_map : {X Y : Type 0} (f : X → Y) (xs : List X) → first_of (map f xs) ≡ option_map f (first_of xs)
 first_map f [] = refl
 first_map f (x ∷ xs) = refl

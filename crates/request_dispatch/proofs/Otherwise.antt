@@ -11,7 +11,8 @@ use Rattle.request_dispatch.specs.declared.waiting.Waiting.{Waiting}
 use Rattle.request_dispatch.specs.AttemptTable.{is_awaited}
 use Rattle.request_dispatch.specs.Looks.{Look, no_address, look_of}
 use Rattle.request_dispatch.specs.Choices.{routes_to, may_take, may_await, by_usable, by_routes, otherwise}
-use Rattle.request_dispatch.proofs.Listing.{find_first, any_passed, any_same_in}
+use Rattle.route_events.proofs.Lists.{first_found}
+use Rattle.request_dispatch.proofs.Listing.{any_passed, any_same_in}
 
 and_assoc : (a b c : Bool) → (a && (b && c)) ≡ ((a && b) && c)
 and_assoc true b c = refl
@@ -31,4 +32,4 @@ by_routes_is cache broken now t w rs are = ap (by_routes no_address broken now t
         ∙ sym (any_passed (may_take look w) (is_awaited t.attempts w.request.origin) all)
 
     first : find (is_open_to broken w.request.origin now w.tried) all ≡ first_of (filter (may_take look w) all)
-    first = find_first (may_take look w) all
+    first = first_found (may_take look w) all
