@@ -191,6 +191,13 @@ impl<S: View> Conn<S> {
         is_one_at_a_time(self.made.proto) && !is_empty(self.outstanding.as_slice())
     }
 
+    /// Whether a request is outstanding here. It takes no memory.
+    pub fn carries(&self, request: u32) -> bool
+        ensures { result ≡ is_one_of request self.now.outstanding }
+    {
+        is_one_of(self.outstanding.as_slice(), request)
+    }
+
     /// Leave for one send for an origin; None exactly where the connection may not carry its requests. The permit borrows
     /// the connection, so nothing can take its authority away before the permit is spent. It takes no memory.
     pub fn permit(&self, origin: &Origin, reach: Reach) -> Option<Permit<'_>>

@@ -3,3 +3,4 @@ pub mod Loops
 pub mod Otherwise
 pub mod Bounds
 pub mod Placing
+pub mod Closing

@@ -5,7 +5,7 @@ use Rattle.std.specs.Option.{option_and_then}
 use Rattle.origin_values.specs.declared.address.Addr.{Addr}
 use Rattle.origin_values.specs.declared.origin.Origin.{Origin}
 use Rattle.route_choice.specs.Candidates.{best_of, number_of}
-use Rattle.request_dispatch.specs.declared.open_connection.OpenConnection.{OpenConnection}
+use Rattle.conn_states.specs.Record.{Record}
 use Rattle.request_dispatch.specs.ConnectionTable.{connection_among, most_sends}
 use Rattle.request_dispatch.specs.Carriers.{candidates, best_connection}
 
@@ -25,23 +25,23 @@ right_most : (a b c : ℕ) → a ≤ c → a ≤ max b c
 right_most a b c h = grind arith
 
 -- no connection has more sends than the most
-pub sends_at : (cs : List OpenConnection) (i : ℕ) (d : OpenConnection) → i < length cs → (get_or cs i d).sends ≤ most_sends cs
+pub sends_at : (cs : List Record) (i : ℕ) (d : Record) → i < length cs → (get_or cs i d).sends ≤ most_sends cs
 sends_at [] i d within = absurd (omega arith)
 sends_at (c ∷ cs) zero d within = left_most c.sends (most_sends cs)
 sends_at (c ∷ cs) (suc i) d within = right_most (get_or cs i d).sends c.sends (most_sends cs) (sends_at cs i d (omega arith))
 
-pub sends_found : (p : OpenConnection → Bool) (cs : List OpenConnection) (c : OpenConnection) → find p cs ≡ Some c → c.sends ≤ most_sends cs
+pub sends_found : (p : Record → Bool) (cs : List Record) (c : Record) → find p cs ≡ Some c → c.sends ≤ most_sends cs
 sends_found p [] c e = absurd (true≢false (sym (ap is_some e)))
 sends_found p (b ∷ cs) c e = by_test (p b) (sends_found p cs c) e
   where
     by_test : (w : Bool) → (find p cs ≡ Some c → c.sends ≤ most_sends cs) → cond w (Some b) (find p cs) ≡ Some c → c.sends ≤ max b.sends (most_sends cs)
-    by_test true rest e = let same : b ≡ c = cc in subst (λ (x : OpenConnection). x.sends ≤ max b.sends (most_sends cs)) same (left_most b.sends (most_sends cs))
+    by_test true rest e = let same : b ≡ c = cc in subst (λ (x : Record). x.sends ≤ max b.sends (most_sends cs)) same (left_most b.sends (most_sends cs))
     by_test false rest e = right_most c.sends b.sends (most_sends cs) (rest e)
 
 -- nor has the best
-pub sends_best : (at : Origin → Addr → Bool) (o : Origin) (cs : List OpenConnection) (c : OpenConnection) → best_connection at o cs ≡ Some c → c.sends ≤ most_sends cs
+pub sends_best : (at : Origin → Addr → Bool) (o : Origin) (cs : List Record) (c : Record) → best_connection at o cs ≡ Some c → c.sends ≤ most_sends cs
 sends_best at o cs c e = by_number (number_of (best_of (candidates at o cs))) e
   where
     by_number : (v : Option ℕ) → option_and_then (connection_among cs) v ≡ Some c → c.sends ≤ most_sends cs
     by_number None e = absurd (true≢false (sym (ap is_some e)))
-    by_number (Some n) e = sends_found (λ (x : OpenConnection). nat_eq x.made.number n) cs c e
+    by_number (Some n) e = sends_found (λ (x : Record). nat_eq x.number n) cs c e

@@ -3,6 +3,8 @@ use Rattle.std.specs.Prelude.{ℕ, ◌+◌, Bool, true, false, not, ◌&&◌, �
 use Rattle.std.specs.List.{list_any}
 use Rattle.origin_values.specs.declared.address.Addr.{Addr}
 use Rattle.origin_values.specs.declared.origin.Origin.{Origin}
+use Rattle.conn_states.specs.Record.{Record}
+use Rattle.conn_states.specs.Said.{said}
 use Rattle.route_choice.specs.declared.broken.Broken.{Broken}
 use Rattle.route_choice.specs.Contents.{kept_failures}
 use Rattle.route_choice.specs.Usable.{is_listed, is_open_to}
@@ -16,13 +18,12 @@ use Rattle.route_events.specs.Routes.{by_alternatives}
 use Rattle.route_events.specs.Dispatch.{first_of, stream_after, alt_used}
 use Rattle.request_dispatch.specs.declared.choice.Choice.{Choice}
 use Rattle.request_dispatch.specs.declared.choice.Choice.TheVariants.{Wait, Open, Send, Refuse}
-use Rattle.request_dispatch.specs.declared.open_connection.OpenConnection.{OpenConnection}
 use Rattle.request_dispatch.specs.declared.tables.Tables.{Tables}
 use Rattle.request_dispatch.specs.declared.waiting.Waiting.{Waiting}
 use Rattle.request_dispatch.specs.AttemptTable.{is_awaited}
-use Rattle.request_dispatch.specs.ConnectionTable.{said, is_opened_by}
+use Rattle.request_dispatch.specs.ConnectionTable.{is_carrier, is_opened_by}
 use Rattle.request_dispatch.specs.Looks.{Look}
-use Rattle.request_dispatch.specs.Carriers.{is_carrier, best_connection}
+use Rattle.request_dispatch.specs.Carriers.{best_connection}
 
 -- the routes that a request may take, in order
 abbrev pub routes_to : Look → Origin → List Route
@@ -67,10 +68,10 @@ by_routes at broken now t w rs = by_usable at t w (list_any (may_await broken no
 abbrev pub otherwise : Look → Tables → Waiting → Choice
 otherwise look t w = by_usable look.is_address t w (list_any (is_awaited t.attempts w.request.origin) (usable look w)) (first_of (usable look w))
 
-abbrev pub by_connection : Look → Tables → Waiting → Option OpenConnection → Choice
+abbrev pub by_connection : Look → Tables → Waiting → Option Record → Choice
 by_connection look t w None = otherwise look t w
 by_connection look t w (Some c) =
-    Send c.made.number (stream_after c.made.proto c.sends) (alt_used (rests_on (said c) w.request.origin) c.made.route w.request.origin) (beside look t w.request.origin)
+    Send c.number (stream_after c.made.proto c.sends) (alt_used (rests_on (said c) w.request.origin) c.made.route w.request.origin) (beside look t w.request.origin)
 
 abbrev pub choice : Look → Tables → Waiting → Choice
 choice look t w = by_connection look t w (best_connection look.is_address w.request.origin t.connections)

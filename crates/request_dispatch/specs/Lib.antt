@@ -1,7 +1,8 @@
+pub mod OpenConnections
 pub mod AttemptTable
 pub mod RequestTable
-pub mod ConnectionTable
 pub mod Looks
+pub mod ConnectionTable
 pub mod Successes
 pub mod Carriers
 pub mod Choices

@@ -1,6 +1,7 @@
 -- What settling makes of the state of a step.
-use Rattle.std.specs.Prelude.{ℕ, ◌+◌, List, [], ◌∷◌, ◌++◌, Option, Some, None, map}
+use Rattle.std.specs.Prelude.{ℕ, Bool, ◌+◌, List, [], ◌∷◌, ◌++◌, Option, Some, None, map}
 use Rattle.origin_values.specs.declared.origin.Origin.{Origin}
+use Rattle.origin_values.specs.declared.address.Addr.{Addr}
 use Rattle.origin_values.specs.declared.host.Host.{Host}
 use Rattle.route_events.specs.declared.action.Action.TheVariants.{OpenTo, SendOn, Refuse as RefuseAction}
 use Rattle.route_events.specs.declared.route.Route.{Route}
@@ -42,12 +43,12 @@ sent_request w conn stream t = record {
   outstanding = t.outstanding ++ record { request = w.request; conn = conn; stream = stream; tried = w.tried } ∷ [];
 }
 
-abbrev pub with_send : Waiting → ℕ → Option ℕ → Option (Host × ℕ) → StepState → StepState
-with_send w conn stream used s = record {
+abbrev pub with_send : (Origin → Addr → Bool) → Waiting → ℕ → Option ℕ → Option (Host × ℕ) → StepState → StepState
+with_send at w conn stream used s = record {
   tables = record {
     attempts = s.tables.attempts;
     requests = sent_request w conn stream s.tables.requests;
-    connections = map (sent_on conn w.request.number) s.tables.connections;
+    connections = map (sent_on at w.request.origin conn w.request.number) s.tables.connections;
   };
   actions = s.actions ++ SendOn w.request.number conn stream used ∷ [];
 }
@@ -57,14 +58,14 @@ abbrev pub with_refusal : Waiting → StepState → StepState
 with_refusal w s = record { tables = s.tables; actions = s.actions ++ RefuseAction w.request.number ∷ [] }
 
 -- one waiting request is settled: what is chosen for it is done
-abbrev pub by_choice : StepState → Waiting → Choice → StepState
-by_choice s w Wait = with_waiting w s
-by_choice s w (Open r) = with_waiting w (with_start w.request.origin r s)
-by_choice s w (Send conn stream used beside) = with_beside w.request.origin beside (with_send w conn stream used s)
-by_choice s w Refuse = with_refusal w s
+abbrev pub by_choice : (Origin → Addr → Bool) → StepState → Waiting → Choice → StepState
+by_choice at s w Wait = with_waiting w s
+by_choice at s w (Open r) = with_waiting w (with_start w.request.origin r s)
+by_choice at s w (Send conn stream used beside) = with_beside w.request.origin beside (with_send at w conn stream used s)
+by_choice at s w Refuse = with_refusal w s
 
 abbrev pub settled_by : Look → StepState → Waiting → StepState
-settled_by look s w = by_choice s w (choice look s.tables w)
+settled_by look s w = by_choice look.is_address s w (choice look s.tables w)
 
 -- all of some requests in order
 abbrev pub settle_over : Look → StepState → List Waiting → StepState

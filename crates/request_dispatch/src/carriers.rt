@@ -2,14 +2,13 @@ ghost use Rattle.std.specs.Prelude.{◌≡◌, ◌∷◌, ◌++◌, ◌&&◌, []
 ghost use Rattle.std.specs.List.{list_any};
 ghost use Rattle.std.specs.Option.{option_copied, option_and_then};
 ghost use Rattle.route_events.specs.Connections.{is_one_of};
-ghost use Rattle.request_dispatch.specs.ConnectionTable.{connection_among};
+ghost use Rattle.request_dispatch.specs.ConnectionTable.{connection_among, is_carrier, is_free};
 ghost use Rattle.request_dispatch.specs.Looks.{no_address};
-ghost use Rattle.request_dispatch.specs.Carriers.{is_carrier, is_free, candidate_of, candidates, is_answered_by_authority};
+ghost use Rattle.request_dispatch.specs.Carriers.{candidate_of, candidates, is_answered_by_authority};
 
-use crate::authority::{authorises, reach};
-use crate::basis::{basis_of, is_occupied};
+use crate::authority::reach;
+use crate::basis::basis_of;
 use crate::open_connection::OpenConnection;
-use crate::requests::is_one_of;
 use alt_base::{ListOf, NoMemory};
 use origin_values::Origin;
 use route_choice::{Candidate, Candidates};
@@ -19,14 +18,14 @@ use std::alloc::Global;
 fn is_carrier(connection: &OpenConnection, origin: &Origin) -> bool
     ensures { result ≡ is_carrier no_address origin.now connection.now }
 {
-    authorises(connection, origin, reach(&connection.made, origin))
+    connection.authorises(origin, reach(connection.made(), origin))
 }
 
 // Whether it may carry a request of the origin now.
 fn is_free(connection: &OpenConnection, origin: &Origin) -> bool
     ensures { result ≡ is_free no_address origin.now connection.now }
 {
-    is_carrier(connection, origin) && !is_occupied(connection)
+    is_carrier(connection, origin) && !connection.busy()
 }
 
 /// Whether one of some connections is authoritative for the origin now.
@@ -41,7 +40,7 @@ pub(crate) fn is_any_carrier(connections: &[OpenConnection], origin: &Origin) ->
 fn answers(connection: &OpenConnection, request: u32, origin: &Origin) -> bool
     ensures { result ≡ (is_one_of request connection.now.outstanding && is_carrier no_address origin.now connection.now) }
 {
-    is_one_of(request, connection.outstanding.as_slice()) && is_carrier(connection, origin)
+    connection.carries(request) && is_carrier(connection, origin)
 }
 
 /// Whether one on which the request of this number is outstanding is authoritative for the origin now.
@@ -67,7 +66,7 @@ fn push_candidate(
 {
     if is_free(connection, origin) {
         return free.push(Candidate {
-            conn: connection.made.number,
+            conn: connection.number(),
             basis: basis_of(connection, origin),
         });
     }

@@ -7,7 +7,7 @@ ghost use Rattle.route_choice.specs.Usable.{is_listed, is_open_to};
 ghost use Rattle.route_events.specs.Authority.{rests_on};
 ghost use Rattle.route_events.specs.Backoff.{is_barred_by};
 ghost use Rattle.route_events.specs.Dispatch.{stream_after, host_or, alternative_used, alt_used};
-ghost use Rattle.request_dispatch.specs.ConnectionTable.{said, most_sends};
+ghost use Rattle.conn_states.specs.Said.{said};
 ghost use Rattle.request_dispatch.specs.Looks.{no_address, look_of};
 ghost use Rattle.request_dispatch.specs.Choices.{is_in_use, unless_in_use, beside, may_await, without_route, by_routes, otherwise, choice};
 
@@ -90,7 +90,7 @@ fn alt_used(
     ensures { IfOk result (λ used. used ≡ alt_used (rests_on (said connection.now) origin.now) connection.now.made.route origin.now) }
 {
     if rests_on(connection, origin) {
-        return alternative_used(alloc, &connection.made.route, origin);
+        return alternative_used(alloc, &connection.made().route, origin);
     }
     Ok(None)
 }
@@ -275,7 +275,6 @@ pub fn choose(
     tables: &Tables,
     waiting: &Waiting,
 ) -> Result<Choice, NoMemory>
-    requires sends { most_sends tables.now.connections < 2 ^ 31 }
     requires alternatives { newest_moment cache.now ≤ now.0 }
     requires failures { newest_failure broken.now ≤ now.0 }
     ensures { IfOk result (λ chosen. chosen ≡ choice (look_of cache.now broken.now now.0) tables.now waiting.now) }
@@ -284,8 +283,8 @@ pub fn choose(
     match tables.connections.best(alloc, origin)? {
         None => otherwise(alloc, cache, broken, now, tables, waiting),
         Some(connection) => Ok(Choice::Send {
-            conn: connection.made.number,
-            stream: stream_after(connection.made.proto, connection.sends),
+            conn: connection.number(),
+            stream: stream_after(connection.made().proto, connection.sends()),
             alt_used: alt_used(alloc, connection, origin)?,
             beside: beside(alloc, cache, broken, now, tables, origin)?,
         }),

@@ -1,17 +1,17 @@
-ghost use Rattle.std.specs.Prelude.{◌≡◌, ◌<◌, ◌^◌, ◌++◌, ◌∷◌, [], map, OnOk, IfOk};
-ghost use Rattle.std.specs.List.{list_any};
+ghost use Rattle.std.specs.Prelude.{◌≡◌, ◌<◌, ◌++◌, ◌∷◌, [], map, nat_eq, OnOk, IfOk};
+ghost use Rattle.std.specs.List.{list_any, position_from};
 ghost use Rattle.std.specs.Option.{option_copied, option_and_then};
-ghost use Rattle.request_dispatch.specs.ConnectionTable.{connection_among, other_connections, begun, sent_on, without_request, misdirected_by, carrying, rebound, is_opened_by, most_sends};
+ghost use Rattle.request_dispatch.specs.ConnectionTable.{connection_among, other_connections, out_on, begun, is_carrier, sent_on, misdirected_by, carrying, rebound, is_opened_by, most_sends};
+ghost use Rattle.conn_states.specs.Changes.{with_answered};
 ghost use Rattle.request_dispatch.specs.Looks.{no_address};
-ghost use Rattle.request_dispatch.specs.Carriers.{is_carrier, candidates, best_connection, is_answered_by_authority};
+ghost use Rattle.request_dispatch.specs.Carriers.{candidates, best_connection, is_answered_by_authority};
 
 use crate::carriers::{candidates, is_answered_by_authority, is_any_carrier};
-use crate::open_connection::{
-    OpenConnection, forget_request, misdirect_all, note_sends, rebind_all,
-};
-use crate::requests::is_one_of;
+use crate::connection_changes::{forget_request, misdirect_all, rebind_all, send_on};
+use crate::open_connection::OpenConnection;
 use alt_base::{ListOf, NoMemory};
 use altsvc_grammar::Alt;
+use conn_states::{Made, Requests as Lost};
 use origin_values::{Origin, same_origin};
 use route_choice::{Candidates, best};
 use route_events::{Connection, Route, same_route};
@@ -19,16 +19,16 @@ use std::alloc::Global;
 use std::marker::Model;
 
 /// The open connections, in the order of their opening.
-#[derive(Debug, Drop)]
+#[derive(Drop)]
 pub struct Connections {
     open: Vec<OpenConnection>,
 }
 
 impl Model for Connections {
     ghost use Rattle.std.specs.Prelude.{List};
-    ghost use Rattle.request_dispatch.specs.declared.open_connection.OpenConnection.{OpenConnection};
+    ghost use Rattle.conn_states.specs.Record.{Record};
 
-    ghost Value = { List OpenConnection };
+    ghost Value = { List Record };
 
     ghost view = { λ connections. connections.open.items };
 }
@@ -48,13 +48,25 @@ impl Connections {
     pub fn open(&mut self, alloc: Global, made: Connection, bound: bool) -> Result<(), NoMemory>
         ensures { OnOk result (self.new ≡ self.old ++ begun made bound ∷ []) }
     {
-        self.open.push(OpenConnection {
-            made,
+        let Connection {
+            number,
+            origin,
+            route,
+            proto,
+            addr,
+            port,
+            names,
+        } = made;
+        let made = Made {
+            origin,
+            route,
+            proto,
+            addr,
+            port,
+            names,
             bound,
-            misdirected: ListOf::new(alloc),
-            outstanding: ListOf::new(alloc),
-            sends: 0,
-        })?;
+        };
+        self.open.push(OpenConnection::begin(alloc, number, made))?;
         Ok(())
     }
 
@@ -65,39 +77,39 @@ impl Connections {
         connection_among(self.open.as_slice(), number)
     }
 
-    /// The connection of a number isn't open any more. It takes no memory.
-    pub fn close(&mut self, number: u64)
-        ensures { self.new ≡ other_connections self.old number }
+    /// The connection of a number isn't open any more. Answers the requests that are lost by its end, in the order of their
+    /// sends. It takes no memory.
+    pub fn close(&mut self, alloc: Global, number: u64) -> Lost
+        ensures lost { result ≡ out_on (connection_among self.old number) }
+        ensures left { self.new ≡ other_connections self.old number }
     {
+        let lost = close_one(alloc, &mut self.open, number);
         drop_connection(&mut self.open, number);
+        lost
     }
 
-    /// A request was sent on the connection of a number. NoMemory comes only where memory isn't found.
-    pub fn note_send(&mut self, conn: u64, request: u32) -> Result<(), NoMemory>
-        requires { most_sends self.old < 2 ^ 31 }
-        ensures { OnOk result (self.new ≡ map (sent_on conn request) self.old) }
+    /// A request of an origin is sent on the connection of a number, where that may carry it: where it is authoritative for
+    /// the origin and not busy, and the request isn't outstanding on it. NoMemory comes only where memory isn't found.
+    pub fn send(&mut self, conn: u64, origin: &Origin, request: u32) -> Result<(), NoMemory>
+        requires { most_sends self.old < 16777215 }
+        ensures { OnOk result (self.new ≡ map (sent_on no_address origin.now conn request) self.old) }
     {
-        note_sends(&mut self.open, conn, request)
+        send_on(&mut self.open, conn, origin, request)
     }
 
     /// A request isn't outstanding any more, on any connection. It takes no memory.
-    pub fn note_answer(&mut self, alloc: Global, request: u32)
-        ensures { self.new ≡ map (without_request request) self.old }
+    pub fn note_answer(&mut self, request: u32)
+        ensures { self.new ≡ map (with_answered request) self.old }
     {
-        forget_request(alloc, &mut self.open, request);
+        forget_request(&mut self.open, request);
     }
 
     /// A 421 came for a request of an origin (RFC 9110 15.5.20): the connection on which it is outstanding is misdirected for
     /// the origin. NoMemory comes only where memory isn't found.
-    pub fn misdirect(
-        &mut self,
-        alloc: Global,
-        request: u32,
-        origin: &Origin,
-    ) -> Result<(), NoMemory>
+    pub fn misdirect(&mut self, request: u32, origin: &Origin) -> Result<(), NoMemory>
         ensures { OnOk result (self.new ≡ map (misdirected_by request origin.now) self.old) }
     {
-        misdirect_all(alloc, &mut self.open, request, origin)
+        misdirect_all(&mut self.open, request, origin)
     }
 
     /// The connection on which a request is outstanding; None exactly where there is none. It takes no memory.
@@ -161,13 +173,15 @@ fn connection_among(connections: &[OpenConnection], number: u64) -> Option<&Open
 {
     connections
         .iter()
-        .find(|connection| connection.made.number == number)
+        .find(|connection| connection.number() == number)
 }
 
 fn carrying(connections: &[OpenConnection], request: u32) -> Option<&OpenConnection>
     ensures { option_copied result ≡ carrying connections.now request }
 {
-    connections.iter().find(|connection| is_one_of(request, connection.outstanding.as_slice()))
+    connections
+        .iter()
+        .find(|connection| connection.carries(request))
 }
 
 // The one of a number, if there is a number.
@@ -180,15 +194,35 @@ fn maybe_of_number(connections: &[OpenConnection], number: Option<u64>) -> Optio
     }
 }
 
+// The place of the one of a number.
+fn place_of(connections: &[OpenConnection], number: u64) -> Option<usize>
+    ensures { result ≡ position_from (λ c. nat_eq c.number number) 0 connections.now }
+{
+    connections
+        .iter()
+        .position(|connection| connection.number() == number)
+}
+
+// Ends the one of a number, the first if there were two.
+fn close_one(alloc: Global, connections: &mut Vec<OpenConnection>, number: u64) -> Lost
+    ensures lost { result ≡ out_on (connection_among connections.old.items number) }
+    ensures left { other_connections connections.new.items number ≡ other_connections connections.old.items number }
+{
+    match place_of(connections.as_slice(), number) {
+        None => ListOf::new(alloc),
+        Some(place) => connections.remove(place).close(),
+    }
+}
+
 fn drop_connection(connections: &mut Vec<OpenConnection>, number: u64)
     ensures { connections.new.items ≡ other_connections connections.old.items number }
 {
-    connections.retain(|connection| number != connection.made.number);
+    connections.retain(|connection| number != connection.number());
 }
 
 fn is_any_opened_by(connections: &[OpenConnection], origin: &Origin, route: &Route) -> bool
     ensures { result ≡ list_any (is_opened_by origin.now route.now) connections.now }
 {
-    connections.iter().any(|c| same_origin(&c.made.origin, origin)
-        && same_route(&c.made.route, route))
+    connections.iter().any(|c| same_origin(&c.made().origin, origin)
+        && same_route(&c.made().route, route))
 }

@@ -1,144 +1,182 @@
-ghost use Rattle.std.specs.Prelude.{◌≡◌, ◌<◌, ◌≤◌, ◌^◌, map, OnOk};
-ghost use Rattle.route_events.specs.Connections.{without};
-ghost use Rattle.request_dispatch.specs.ConnectionTable.{is_among, with_origin, sent_on, without_request, misdirected_by, rebound, most_sends};
+ghost use Rattle.std.specs.Prelude.{◌≡◌, ◌<◌, ◌≤◌, OnOk, OnErr};
+ghost use Rattle.conn_states.specs.Changes.{begun as begun_record, with_misdirected, with_answered, unbound};
+ghost use Rattle.conn_states.specs.Said.{said};
+ghost use Rattle.route_events.specs.Authority.{authorises};
+ghost use Rattle.route_events.specs.Connections.{is_one_of};
+ghost use Rattle.route_events.specs.Records.{is_occupied};
+ghost use Rattle.request_dispatch.specs.ConnectionTable.{sent_for};
+ghost use Rattle.request_dispatch.specs.Looks.{no_address};
+ghost use Rattle.request_dispatch.specs.OpenConnections.{record_lent};
 
-use crate::authority::gives;
-use crate::requests::is_one_of;
-use alt_base::{Duplicate, ListOf, NoMemory};
-use altsvc_grammar::Alt;
-use origin_values::{Origin, same_origin};
-use route_events::Connection;
+use crate::authority::reach;
+use crate::connection_state::ConnectionState;
+use crate::lent::Lent;
+use alt_base::NoMemory;
+use conn_states::{Conn, Made, Requests as Lost, send_where_authoritative};
+use origin_values::Origin;
+use route_events::Reach;
 use std::alloc::Global;
-use std::mem;
+use std::marker::Model;
 
-/// A connection that is open: as it was made, whether it has a basis for the origin that it was opened for, the different
-/// origins for which it is misdirected (RFC 9110 15.5.20), the requests outstanding on it in the order of their sends, and
-/// the number of its sends.
-#[derive(Debug, Drop)]
+/// A connection that is open, with or without an origin set. To every contract it is one record, the one of conn_states.
+#[derive(Drop)]
 pub struct OpenConnection {
-    pub made: Connection,
-    pub bound: bool,
-    pub misdirected: ListOf<Origin>,
-    pub outstanding: ListOf<u32>,
-    pub sends: u32,
+    state: ConnectionState,
 }
 
-// Notes a send, where the connection is the one of this number.
-fn note_send(connection: &mut OpenConnection, conn: u64, request: u32) -> Result<(), NoMemory>
-    requires { connection.old.sends < 2 ^ 31 }
-    ensures { OnOk result (connection.new ≡ sent_on conn request connection.old) }
-{
-    if connection.made.number == conn {
-        connection.outstanding.push(request)?;
-        connection.sends += 1;
+impl Model for OpenConnection {
+    ghost use Rattle.conn_states.specs.Record.{Record};
+    ghost use Rattle.request_dispatch.specs.OpenConnections.{record_in};
+
+    ghost Value = { Record };
+
+    ghost view = { λ connection. record_in connection.state };
+}
+
+impl OpenConnection {
+    // One that was just opened.
+    pub(crate) fn begin(alloc: Global, number: u64, made: Made) -> OpenConnection
+        ensures { result ≡ begun_record number made }
+    {
+        OpenConnection {
+            state: ConnectionState::Plain(Conn::begin(alloc, number, made)),
+        }
     }
-    Ok(())
-}
 
-/// Notes a send on the connection of a number.
-pub(crate) fn note_sends(
-    connections: &mut [OpenConnection],
-    conn: u64,
-    request: u32,
-) -> Result<(), NoMemory>
-    requires { most_sends connections.old < 2 ^ 31 }
-    ensures { OnOk result (connections.new ≡ map (sent_on conn request) connections.old) }
-{
-    for connection in connections.iter_mut() {
-        note_send(connection, conn, request)?;
+    /// Its number. It takes no memory.
+    pub fn number(&self) -> u64
+        ensures { result ≡ self.now.number }
+    {
+        match &self.state {
+            ConnectionState::Plain(conn) => conn.number(),
+            ConnectionState::Gated(conn) => conn.number(),
+        }
     }
-    Ok(())
-}
 
-fn drop_number(numbers: &mut Vec<u32>, number: u32)
-    ensures { numbers.new.items ≡ without number numbers.old.items }
-{
-    numbers.retain(|n| *n != number);
-}
-
-fn forget_on(alloc: Global, connection: &mut OpenConnection, request: u32)
-    ensures { connection.new ≡ without_request request connection.old }
-{
-    let outstanding = mem::replace(&mut connection.outstanding, ListOf::new(alloc));
-    let mut numbers = outstanding.into_vec();
-    drop_number(&mut numbers, request);
-    connection.outstanding = ListOf::from_vec(numbers);
-}
-
-/// A request isn't outstanding any more, on any connection.
-pub(crate) fn forget_request(alloc: Global, connections: &mut [OpenConnection], request: u32)
-    ensures { connections.new ≡ map (without_request request) connections.old }
-{
-    for connection in connections.iter_mut() {
-        forget_on(alloc, connection, request);
+    /// What it was begun with. It takes no memory.
+    pub fn made(&self) -> &Made
+        ensures { result.now ≡ self.now.made }
+    {
+        match &self.state {
+            ConnectionState::Plain(conn) => conn.made(),
+            ConnectionState::Gated(conn) => conn.made(),
+        }
     }
-}
 
-fn is_among(origins: &[Origin], origin: &Origin) -> bool
-    ensures { result ≡ is_among origins.now origin.now }
-{
-    origins.iter().any(|listed| same_origin(listed, origin))
-}
-
-/// Whether the connection is misdirected for an origin.
-pub(crate) fn is_misdirected(connection: &OpenConnection, origin: &Origin) -> bool
-    ensures { result ≡ is_among connection.now.misdirected origin.now }
-{
-    is_among(connection.misdirected.as_slice(), origin)
-}
-
-fn add_origin(alloc: Global, origins: &mut ListOf<Origin>, origin: &Origin) -> Result<(), NoMemory>
-    ensures { OnOk result (origins.new ≡ with_origin origin.now origins.old) }
-{
-    if is_among(origins.as_slice(), origin) {
-        return Ok(());
+    /// Whether it has a basis for the origin that it was opened for. It takes no memory.
+    pub fn bound(&self) -> bool
+        ensures { result ≡ self.now.bound }
+    {
+        match &self.state {
+            ConnectionState::Plain(conn) => conn.bound(),
+            ConnectionState::Gated(conn) => conn.bound(),
+        }
     }
-    origins.push(origin.copy(alloc)?)
-}
 
-fn misdirect_one(
-    alloc: Global,
-    connection: &mut OpenConnection,
-    request: u32,
-    origin: &Origin,
-) -> Result<(), NoMemory>
-    ensures { OnOk result (connection.new ≡ misdirected_by request origin.now connection.old) }
-{
-    if is_one_of(request, connection.outstanding.as_slice()) {
-        add_origin(alloc, &mut connection.misdirected, origin)?;
+    /// How many sends it has carried. It takes no memory.
+    pub fn sends(&self) -> u32
+        ensures count { result ≡ self.now.sends }
+        ensures few { result ≤ 16777215 }
+    {
+        match &self.state {
+            ConnectionState::Plain(conn) => conn.sends(),
+            ConnectionState::Gated(conn) => conn.sends(),
+        }
     }
-    Ok(())
-}
 
-/// A 421 came for a request of an origin: the connection that it is outstanding on is misdirected for the origin.
-pub(crate) fn misdirect_all(
-    alloc: Global,
-    connections: &mut [OpenConnection],
-    request: u32,
-    origin: &Origin,
-) -> Result<(), NoMemory>
-    ensures { OnOk result (connections.new ≡ map (misdirected_by request origin.now) connections.old) }
-{
-    for connection in connections.iter_mut() {
-        misdirect_one(alloc, connection, request, origin)?;
+    /// Whether a request is outstanding on it. It takes no memory.
+    pub fn carries(&self, request: u32) -> bool
+        ensures { result ≡ is_one_of request self.now.outstanding }
+    {
+        match &self.state {
+            ConnectionState::Plain(conn) => conn.carries(request),
+            ConnectionState::Gated(conn) => conn.carries(request),
+        }
     }
-    Ok(())
-}
 
-fn rebind_one(connection: &mut OpenConnection, origin: &Origin, alts: &[Alt])
-    ensures { connection.new ≡ rebound origin.now alts.now connection.old }
-{
-    if same_origin(origin, &connection.made.origin) && !gives(alts, &connection.made.route) {
-        connection.bound = false;
+    /// Whether it is busy (RFC 9112 9.3). It takes no memory.
+    pub fn busy(&self) -> bool
+        ensures { result ≡ is_occupied (said self.now) }
+    {
+        match &self.state {
+            ConnectionState::Plain(conn) => conn.busy(),
+            ConnectionState::Gated(conn) => conn.busy(),
+        }
     }
-}
 
-/// A value was taken for an origin: its connections that were opened by alternatives that aren't listed rest on nothing
-/// any more.
-pub(crate) fn rebind_all(connections: &mut [OpenConnection], origin: &Origin, alts: &[Alt])
-    ensures { connections.new ≡ map (rebound origin.now alts.now) connections.old }
-{
-    for connection in connections.iter_mut() {
-        rebind_one(connection, origin, alts);
+    /// Whether it is authoritative for an origin that it reaches so (RFC 9110 4.3; RFC 9113 9.1.1). It takes no memory.
+    pub fn authorises(&self, origin: &Origin, reach: Reach) -> bool
+        ensures { result ≡ authorises (said self.now) origin.now reach }
+    {
+        match &self.state {
+            ConnectionState::Plain(conn) => conn.authorises(origin, reach),
+            ConnectionState::Gated(conn) => conn.authorises(origin, reach),
+        }
+    }
+
+    /// It, in the state that its type says. It takes no memory.
+    pub fn lend(&self) -> Lent<'_>
+        ensures { record_lent result ≡ self.now }
+    {
+        match &self.state {
+            ConnectionState::Plain(conn) => Lent::Plain(conn),
+            ConnectionState::Gated(conn) => Lent::Gated(conn),
+        }
+    }
+
+    // Sends a request for an origin, where it may carry it now.
+    pub(crate) fn send(&mut self, origin: &Origin, request: u32) -> Result<(), NoMemory>
+        requires { self.old.sends < 16777215 }
+        ensures { OnOk result (self.new ≡ sent_for no_address origin.now request self.old) }
+    {
+        if self.busy() || self.carries(request) {
+            return Ok(());
+        }
+        let reach = reach(self.made(), origin);
+        let _sent = match &mut self.state {
+            ConnectionState::Plain(conn) => send_where_authoritative(conn, origin, reach, request)?,
+            ConnectionState::Gated(conn) => send_where_authoritative(conn, origin, reach, request)?,
+        };
+        Ok(())
+    }
+
+    // A 421 came for an origin (RFC 9110 15.5.20).
+    pub(crate) fn misdirect(&mut self, origin: &Origin) -> Result<(), NoMemory>
+        ensures { OnOk result (self.new ≡ with_misdirected origin.now self.old) }
+    {
+        match &mut self.state {
+            ConnectionState::Plain(conn) => conn.misdirect(origin),
+            ConnectionState::Gated(conn) => conn.misdirect(origin),
+        }
+    }
+
+    // Its basis is taken away.
+    pub(crate) fn unbind(&mut self)
+        ensures { self.new ≡ unbound self.old }
+    {
+        match &mut self.state {
+            ConnectionState::Plain(conn) => conn.unbind(),
+            ConnectionState::Gated(conn) => conn.unbind(),
+        }
+    }
+
+    // A request isn't outstanding on it any more.
+    pub(crate) fn answered(&mut self, request: u32)
+        ensures { self.new ≡ with_answered request self.old }
+    {
+        let _was = match &mut self.state {
+            ConnectionState::Plain(conn) => conn.answered(request),
+            ConnectionState::Gated(conn) => conn.answered(request),
+        };
+    }
+
+    // Its end, and what is lost by it, in the order of the sends.
+    pub(crate) fn close(self) -> Lost
+        ensures { result ≡ self.outstanding }
+    {
+        match self.state {
+            ConnectionState::Plain(conn) => conn.close().lost(),
+            ConnectionState::Gated(conn) => conn.close().lost(),
+        }
     }
 }

@@ -2,7 +2,7 @@ ghost use Rattle.std.specs.Prelude.{◌≡◌, ◌≤◌, ◌<◌, ◌+◌, ◌^
 ghost use Rattle.network_cache.specs.Contents.{newest_moment};
 ghost use Rattle.route_choice.specs.Contents.{newest_moment as newest_failure};
 ghost use Rattle.request_dispatch.specs.ConnectionTable.{most_sends};
-ghost use Rattle.request_dispatch.specs.Looks.{look_of};
+ghost use Rattle.request_dispatch.specs.Looks.{no_address, look_of};
 ghost use Rattle.request_dispatch.specs.StepStates.{with_start, with_beside, with_send, by_choice, settled_by, settled};
 
 use crate::choice::{Choice, choose};
@@ -57,11 +57,14 @@ fn send(
     stream: Option<u32>,
     alt_used: Option<(Host, u16)>,
 ) -> Result<(), NoMemory>
-    requires { most_sends state.old.tables.connections < 2 ^ 31 }
-    ensures { OnOk result (state.new ≡ with_send waiting conn stream alt_used state.old) }
+    requires { most_sends state.old.tables.connections < 16777215 }
+    ensures { OnOk result (state.new ≡ with_send no_address waiting conn stream alt_used state.old) }
 {
     let request = waiting.request.number;
-    state.tables.connections.note_send(conn, request)?;
+    state
+        .tables
+        .connections
+        .send(conn, &waiting.request.origin, request)?;
     state.tables.requests.push_sent(waiting, conn, stream)?;
     state.actions.push(Action::SendOn {
         request,
@@ -79,8 +82,8 @@ fn apply(
     choice: Choice,
 ) -> Result<(), NoMemory>
     requires opened { state.old.tables.attempts.opened < 2 ^ 63 }
-    requires sends { most_sends state.old.tables.connections < 2 ^ 31 }
-    ensures { OnOk result (state.new ≡ by_choice state.old waiting choice) }
+    requires sends { most_sends state.old.tables.connections < 16777215 }
+    ensures { OnOk result (state.new ≡ by_choice no_address state.old waiting choice) }
 {
     match choice {
         Choice::Wait => state.tables.requests.push_waiting(waiting),
@@ -114,7 +117,7 @@ fn settle_one(
     waiting: Waiting,
 ) -> Result<(), NoMemory>
     requires opened { state.old.tables.attempts.opened < 2 ^ 63 }
-    requires sends { most_sends state.old.tables.connections < 2 ^ 31 }
+    requires sends { most_sends state.old.tables.connections < 16777215 }
     requires alternatives { newest_moment cache.now ≤ now.0 }
     requires failures { newest_failure broken.now ≤ now.0 }
     ensures { OnOk result (state.new ≡ settled_by (look_of cache.now broken.now now.0) state.old waiting) }
@@ -134,7 +137,7 @@ pub fn settle(
     state: &mut StepState,
 ) -> Result<(), NoMemory>
     requires opened { state.old.tables.attempts.opened + length state.old.tables.requests.waiting < 2 ^ 63 }
-    requires sends { most_sends state.old.tables.connections + length state.old.tables.requests.waiting < 2 ^ 31 }
+    requires sends { most_sends state.old.tables.connections + length state.old.tables.requests.waiting ≤ 16777215 }
     requires alternatives { newest_moment cache.now ≤ now.0 }
     requires failures { newest_failure broken.now ≤ now.0 }
     ensures { OnOk result (state.new ≡ settled (look_of cache.now broken.now now.0) state.old) }

@@ -2,7 +2,7 @@ use crate::tables::Tables;
 use route_events::Actions;
 
 /// How far a step has come: the tables, and the actions so far, in order.
-#[derive(Debug, Drop)]
+#[derive(Drop)]
 pub struct StepState {
     pub tables: Tables,
     pub actions: Actions,

@@ -3,7 +3,7 @@ use crate::connections::Connections;
 use crate::requests::Requests;
 
 /// What the client keeps of attempts, requests and connections.
-#[derive(Debug, Drop)]
+#[derive(Drop)]
 pub struct Tables {
     pub attempts: Attempts,
     pub requests: Requests,

@@ -1,4 +1,4 @@
-ghost use Rattle.std.specs.Prelude.{◌+◌, ◌<◌, ◌^◌, length, IfOk};
+ghost use Rattle.std.specs.Prelude.{◌+◌, ◌<◌, ◌≤◌, ◌^◌, length, IfOk};
 ghost use Rattle.request_dispatch.specs.ConnectionTable.{most_sends};
 
 use crate::{Attempts, Connections, Requests, StepState, Tables, settle};
@@ -46,7 +46,7 @@ fn numbers(alloc: Global, requests: Requests) -> Result<Vec<u32>, NoMemory> {
 // One waiting request, and one open connection.
 fn state(alloc: Global) -> Result<StepState, NoMemory>
     ensures opened { IfOk result (λ s. s.tables.attempts.opened + length s.tables.requests.waiting < 2 ^ 63) }
-    ensures sends { IfOk result (λ s. most_sends s.tables.connections + length s.tables.requests.waiting < 2 ^ 31) }
+    ensures sends { IfOk result (λ s. most_sends s.tables.connections + length s.tables.requests.waiting ≤ 16777215) }
 {
     let mut connections = Connections::new(alloc);
     connections.open(alloc, connection(alloc, 1)?, true)?;

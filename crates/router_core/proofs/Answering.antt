@@ -21,7 +21,7 @@ use Rattle.route_events.specs.declared.connection.Connection.{Connection}
 use Rattle.route_events.specs.Connections.{connections, is_open, open_connections, is_one_of, outstanding, send_count, without}
 use Rattle.route_events.specs.Misdirection.{asks_for, is_misdirected}
 use Rattle.route_events.specs.Alternatives.{alternatives_of}
-use Rattle.route_events.specs.Authority.{is_https, is_success, is_initial, gives, is_upheld, record_of, is_authoritative}
+use Rattle.route_events.specs.Authority.{is_https, is_success, gives, is_upheld, record_of, is_authoritative}
 use Rattle.route_events.specs.Advertisements.{value_of_reading, value_taken, advertisement, field_effects, retries, answer_effects}
 use Rattle.route_events.specs.Advertisements as journal
 use Rattle.route_events.specs.Step.{with_actions}
@@ -33,8 +33,12 @@ use Rattle.request_dispatch.specs.declared.step_state.StepState.{StepState}
 use Rattle.request_dispatch.specs.declared.tables.Tables.{Tables}
 use Rattle.request_dispatch.specs.declared.waiting.Waiting.{Waiting}
 use Rattle.request_dispatch.specs.RequestTable.{RequestTable, request_among, requests_of, waits_again, sent_back, lost}
-use Rattle.request_dispatch.specs.declared.open_connection.OpenConnection.{OpenConnection}
-use Rattle.request_dispatch.specs.ConnectionTable.{is_among, with_origin, said, without_request, misdirected_by, rebound}
+use Rattle.conn_states.specs.Changes.{with_answered, unbound}
+use Rattle.conn_states.specs.Origins.{is_among, joined}
+use Rattle.conn_states.specs.Record.{Record}
+use Rattle.conn_states.specs.Said.{said, in_set}
+use Rattle.conn_states.proofs.Joined.{joined_one}
+use Rattle.request_dispatch.specs.ConnectionTable.{misdirected_by, rebound}
 use Rattle.request_dispatch.specs.Carriers.{is_answered_by_authority}
 use Rattle.request_dispatch.specs.Looks.{no_address}
 use Rattle.request_dispatch.proofs.Listing.{any_map, any_same_in, map_twice}
@@ -124,8 +128,8 @@ misdirected_record request o r =
     cond (is_one_of request r.outstanding) (record { made = r.made; bound = r.bound; gated = r.gated; holds = r.holds; misdirected = λ p. r.misdirected p || origin_eq o p; outstanding = r.outstanding; sends = r.sends }) r
 
 -- a list of origins holds one more
-among_more : (o : Origin) (origins : List Origin) (p : Origin) → is_among (with_origin o origins) p ≡ (is_among origins p || origin_eq o p)
-among_more o origins p = by_test (is_among origins o) refl
+among_more : (o : Origin) (origins : List Origin) (p : Origin) → is_among (joined origins (o ∷ [])) p ≡ (is_among origins p || origin_eq o p)
+among_more o origins p = ap (λ ks. is_among ks p) (sym (joined_one origins o (is_among origins o) refl)) ∙ by_test (is_among origins o) refl
   where
     there : (b : Bool) → origin_eq o p ≡ b → is_among origins o ≡ true → is_among origins p ≡ (is_among origins p || b)
     there true same e = let is = ap (is_among origins) (sym (true_origin o p same)) ∙ e in is ∙ sym (or_right (is_among origins p) true refl)
@@ -143,12 +147,12 @@ among_more o origins p = by_test (is_among origins o) refl
         alone true = refl
         alone false = refl
 
-misdirected_says : (request : ℕ) (o : Origin) (c : OpenConnection) → said (misdirected_by request o c) ≡ misdirected_record request o (said c)
+misdirected_says : (request : ℕ) (o : Origin) (c : Record) → said (misdirected_by request o c) ≡ misdirected_record request o (said c)
 misdirected_says request o c = by_test (is_one_of request c.outstanding) refl
   where
     by_test : (b : Bool) → is_one_of request c.outstanding ≡ b → said (misdirected_by request o c) ≡ misdirected_record request o (said c)
     by_test true e =
-        rw e (λ i. record { made = c.made; bound = c.bound; gated = false; holds = is_initial c.made; misdirected = λ p. among_more o c.misdirected p i; outstanding = c.outstanding; sends = c.sends })
+        rw e (λ i. record { made = (said c).made; bound = c.bound; gated = is_some c.listed; holds = in_set c; misdirected = λ p. among_more o c.misdirected p i; outstanding = c.outstanding; sends = c.sends })
     by_test false e = rw e refl
 
 -- whether a response turns a request for an origin away on a connection, by whether it is a 421
@@ -156,7 +160,7 @@ abbrev turned_by : Bool → Journal → ℕ → ℕ → Origin → Bool
 turned_by back j conn request p = option_map_or (λ number. is_one_of number (outstanding j conn) && asks_for j p number) (cond back (Some request) None) false
 
 hold_answered : (t : Tables) (j : Journal) (now request status age : ℕ) (altsvc : Option (List ℕ)) (requests : RequestTable) (x : Outstanding) → request_of j request ≡ Some x.request → Hold t j →
-    Hold (record { attempts = t.attempts; requests = requests; connections = map (without_request request) (misdirected_for request status (Some x) t.connections) }) (Happened now (Response request status age altsvc) true ∷ j)
+    Hold (record { attempts = t.attempts; requests = requests; connections = map (with_answered request) (misdirected_for request status (Some x) t.connections) }) (Happened now (Response request status age altsvc) true ∷ j)
 hold_answered t j now request status age altsvc requests x asked hold = record {
   opened = hold.opened;
   pending = hold.pending;
@@ -199,24 +203,32 @@ hold_answered t j now request status age altsvc requests x asked hold = record {
         ∙ (λ i. built (λ p. (is_one_of request (outstanding j c.number) && option_map_or (λ (q : Request). origin_eq q.origin p) (sym asked i) false) || is_misdirected j c p) c)
         ∙ ap (λ b. built (λ p. turned_by b j c.number request p || is_misdirected j c p) c) (sym is)
 
-    by_back : (b : Bool) → nat_eq status 421 ≡ b → map said (map (without_request request) (cond b (map (misdirected_by request o) t.connections) t.connections)) ≡ map (record_of k) (open_connections j)
-    by_back false is = changed (without_request request) (without_record request) t.connections j k (open_connections j) (λ c. refl) (λ c found. kept_now is c) hold.connections
+    by_back : (b : Bool) → nat_eq status 421 ≡ b → map said (map (with_answered request) (cond b (map (misdirected_by request o) t.connections) t.connections)) ≡ map (record_of k) (open_connections j)
+    by_back false is = changed (with_answered request) (without_record request) t.connections j k (open_connections j) (λ c found. refl) (λ c found. kept_now is c) hold.connections
     by_back true is =
-        ap (map said) (map_twice (without_request request) (misdirected_by request o) t.connections)
-        ∙ changed (λ c. without_request request (misdirected_by request o c)) (λ r. without_record request (misdirected_record request o r)) t.connections j k (open_connections j)
-        (λ c. ap (without_record request) (misdirected_says request o c)) (λ c found. turned_now is c) hold.connections
+        ap (map said) (map_twice (with_answered request) (misdirected_by request o) t.connections)
+        ∙ changed (λ c. with_answered request (misdirected_by request o c)) (λ r. without_record request (misdirected_record request o r)) t.connections j k (open_connections j)
+        (λ c found. ap (without_record request) (misdirected_says request o c)) (λ c found. turned_now is c) hold.connections
 
 and_swap : (a b c : Bool) → (a && (b && c)) ≡ (b && (a && c))
 and_swap true b c = refl
 and_swap false true c = refl
 and_swap false false c = refl
 
+rebound_says : (o : Origin) (value : AltSvc) (c : Record) → said (rebound o (alternatives_of value) c) ≡ rebound_record o value (said c)
+rebound_says o value c = by_tests (origin_eq o c.made.origin) (gives (alternatives_of value) c.made.route)
+  where
+    by_tests : (a b : Bool) → said (cond (a && not b) (unbound c) c) ≡ record { made = (said c).made; bound = (not a || b) && c.bound; gated = is_some c.listed; holds = in_set c; misdirected = is_among c.misdirected; outstanding = c.outstanding; sends = c.sends }
+    by_tests true true = refl
+    by_tests true false = refl
+    by_tests false b = refl
+
 hold_value : (t : Tables) (k : Journal) (o : Origin) (value : AltSvc) → Hold t k →
     Hold (record { attempts = t.attempts; requests = t.requests; connections = map (rebound o (alternatives_of value)) t.connections }) (Taken (Alternatives o value) ∷ k)
 hold_value t k o value hold = record {
   opened = hold.opened;
   pending = hold.pending;
-  connections = changed (rebound o (alternatives_of value)) (rebound_record o value) t.connections k (Taken (Alternatives o value) ∷ k) (open_connections k) (λ c. refl)
+  connections = changed (rebound o (alternatives_of value)) (rebound_record o value) t.connections k (Taken (Alternatives o value) ∷ k) (open_connections k) (λ c found. rebound_says o value c)
       (λ x found. λ i. record { made = x; bound = and_swap (not (origin_eq o x.origin) || gives (alternatives_of value) x.route) (is_success x) (is_upheld k x) i; gated = false; holds = (record_of k x).holds; misdirected = is_misdirected k x; outstanding = outstanding k x.number; sends = send_count k x.number })
       hold.connections;
 }
@@ -292,7 +304,7 @@ answered_keeps s j now request status age altsvc x as' known none answer sound r
     after : RequestTable
     after = cond (nat_eq status 421) (sent_back request s.tables.requests) (lost (request ∷ []) s.tables.requests)
 
-    held : Hold (record { attempts = s.tables.attempts; requests = after; connections = map (without_request request) (misdirected_for request status (Some x) s.tables.connections) }) k
+    held : Hold (record { attempts = s.tables.attempts; requests = after; connections = map (with_answered request) (misdirected_for request status (Some x) s.tables.connections) }) k
     held = hold_answered s.tables j now request status age altsvc after x known hold
 
     still : HoldsRequests after k

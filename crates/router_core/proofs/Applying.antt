@@ -1,6 +1,7 @@
 -- What an action changes of the tables is what it changes in the journal.
 use Rattle.std.proofs.Common.{◌≡◌, ℕ, ◌+◌, ◌<◌, Bool, true, false, cond, not, nat_eq, List, [], ◌∷◌, ◌++◌, map, length, Option, refl, ap, sym, ◌∙◌, arith, append_assoc, append-nil}
 use Rattle.std.proofs.lemmas.List.{length-append}
+use Rattle.origin_values.specs.declared.address.Addr.{Addr}
 use Rattle.origin_values.specs.declared.host.Host.{Host}
 use Rattle.origin_values.specs.declared.origin.Origin.{Origin}
 use Rattle.route_events.specs.declared.action.Action.{Action}
@@ -18,14 +19,17 @@ use Rattle.route_events.proofs.Quiet.{pending_more}
 use Rattle.route_events.specs.Records.{ConnectionRecord}
 use Rattle.route_events.specs.Authority.{record_of}
 use Rattle.route_choice.specs.Usable.{is_listed}
-use Rattle.request_dispatch.specs.declared.open_connection.OpenConnection.{OpenConnection}
+use Rattle.conn_states.specs.Changes.{with_sent}
+use Rattle.conn_states.specs.Record.{Record}
+use Rattle.conn_states.specs.Said.{said}
 use Rattle.request_dispatch.specs.declared.tables.Tables.{Tables}
 use Rattle.request_dispatch.specs.declared.waiting.Waiting.{Waiting}
 use Rattle.request_dispatch.specs.AttemptTable.{started}
 use Rattle.request_dispatch.specs.RequestTable.{RequestTable}
-use Rattle.request_dispatch.specs.ConnectionTable.{said, sent_on}
+use Rattle.request_dispatch.specs.ConnectionTable.{may_carry, sent_on}
 use Rattle.request_dispatch.proofs.Listing.{map_same_in, map_twice}
 use Rattle.router_core.specs.Holds.{Hold, AreTried}
+use Rattle.router_core.proofs.Permitted.{MayCarry}
 
 -- an attempt that starts
 abbrev pub with_started : Origin → Route → Tables → Tables
@@ -43,11 +47,11 @@ hold_open t j n o r not_ended next hold =
     }
 
 -- a change of each connection of a table that says of itself what the longer journal says
-pub changed : (f : OpenConnection → OpenConnection) (g : ConnectionRecord → ConnectionRecord) (cs : List OpenConnection) (j k : Journal) (xs : List Connection) →
-    ((c : OpenConnection) → said (f c) ≡ g (said c)) → ((x : Connection) → IsIn x xs → g (record_of j x) ≡ record_of k x) → map said cs ≡ map (record_of j) xs → map said (map f cs) ≡ map (record_of k) xs
+pub changed : (f : Record → Record) (g : ConnectionRecord → ConnectionRecord) (cs : List Record) (j k : Journal) (xs : List Connection) →
+    ((c : Record) → IsIn c cs → said (f c) ≡ g (said c)) → ((x : Connection) → IsIn x xs → g (record_of j x) ≡ record_of k x) → map said cs ≡ map (record_of j) xs → map said (map f cs) ≡ map (record_of k) xs
 changed f g cs j k xs says is hold =
     map_twice said f cs
-    ∙ map_same_in (λ c. said (f c)) (λ c. g (said c)) cs (λ c found. says c)
+    ∙ map_same_in (λ c. said (f c)) (λ c. g (said c)) cs says
     ∙ sym (map_twice g said cs)
     ∙ ap (map g) hold
     ∙ map_twice g (record_of j) xs
@@ -58,12 +62,12 @@ abbrev sent_record : ℕ → ℕ → ConnectionRecord → ConnectionRecord
 sent_record conn q r =
     cond (nat_eq r.made.number conn) (record { made = r.made; bound = r.bound; gated = r.gated; holds = r.holds; misdirected = r.misdirected; outstanding = r.outstanding ++ q ∷ []; sends = r.sends + 1 }) r
 
-sent_says : (conn q : ℕ) (c : OpenConnection) → said (sent_on conn q c) ≡ sent_record conn q (said c)
-sent_says conn q c = by_test (nat_eq c.made.number conn) refl
+sent_says : (at : Origin → Addr → Bool) (o : Origin) (conn q : ℕ) (c : Record) → (nat_eq c.number conn ≡ true → may_carry at o q c ≡ true) → said (sent_on at o conn q c) ≡ sent_record conn q (said c)
+sent_says at o conn q c may = by_test (nat_eq c.number conn) refl may
   where
-    by_test : (b : Bool) → nat_eq c.made.number conn ≡ b → said (sent_on conn q c) ≡ sent_record conn q (said c)
-    by_test true e = rw e refl
-    by_test false e = rw e refl
+    by_test : (b : Bool) → nat_eq c.number conn ≡ b → (b ≡ true → may_carry at o q c ≡ true) → said (cond b (cond (may_carry at o q c) (with_sent q c) c) c) ≡ cond b (record { made = (said c).made; bound = c.bound; gated = (said c).gated; holds = (said c).holds; misdirected = (said c).misdirected; outstanding = c.outstanding ++ q ∷ []; sends = c.sends + 1 }) (said c)
+    by_test true e may = ap (λ b. said (cond b (with_sent q c) c)) (may refl)
+    by_test false e may = refl
 
 sent_is : (j : Journal) (q conn : ℕ) (s : Option ℕ) (u : Option (Host × ℕ)) (c : Connection) → sent_record conn q (record_of j c) ≡ record_of (Taken (SendOn q conn s u) ∷ j) c
 sent_is j q conn s u c = by_test (nat_eq c.number conn) refl (nat_eq-flip conn c.number)
@@ -72,12 +76,12 @@ sent_is j q conn s u c = by_test (nat_eq c.number conn) refl (nat_eq-flip conn c
     by_test true e flip = rw (flip, e) refl
     by_test false e flip = rw (flip, e) refl
 
-pub hold_send : (t : Tables) (j : Journal) (q conn : ℕ) (s : Option ℕ) (u : Option (Host × ℕ)) (requests : RequestTable) → Hold t j →
-    Hold (record { attempts = t.attempts; requests = requests; connections = map (sent_on conn q) t.connections }) (Taken (SendOn q conn s u) ∷ j)
-hold_send t j q conn s u requests hold = record {
+pub hold_send : (at : Origin → Addr → Bool) (o : Origin) (t : Tables) (j : Journal) (q conn : ℕ) (s : Option ℕ) (u : Option (Host × ℕ)) (requests : RequestTable) → MayCarry at o conn q t.connections → Hold t j →
+    Hold (record { attempts = t.attempts; requests = requests; connections = map (sent_on at o conn q) t.connections }) (Taken (SendOn q conn s u) ∷ j)
+hold_send at o t j q conn s u requests may hold = record {
   opened = hold.opened;
   pending = hold.pending;
-  connections = changed (sent_on conn q) (sent_record conn q) t.connections j (Taken (SendOn q conn s u) ∷ j) (open_connections j) (sent_says conn q) (λ c found. sent_is j q conn s u c) hold.connections;
+  connections = changed (sent_on at o conn q) (sent_record conn q) t.connections j (Taken (SendOn q conn s u) ∷ j) (open_connections j) (λ c found. sent_says at o conn q c (may c found)) (λ c found. sent_is j q conn s u c) hold.connections;
 }
 
 pub hold_refuse : (t : Tables) (j : Journal) (q : ℕ) → Hold t j → Hold t (Taken (Refuse q) ∷ j)

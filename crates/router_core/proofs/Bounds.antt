@@ -15,7 +15,8 @@ use Rattle.route_events.specs.declared.action.Action.TheVariants as action
 use Rattle.altsvc_grammar.specs.declared.alt.Alt.{Alt}
 use Rattle.origin_values.specs.declared.origin.Origin.{Origin}
 use Rattle.route_events.specs.Alternatives.{alternatives_of}
-use Rattle.request_dispatch.specs.declared.open_connection.OpenConnection.{OpenConnection}
+use Rattle.conn_states.specs.Changes.{with_answered, with_misdirected, unbound}
+use Rattle.conn_states.specs.Record.{Record}
 use Rattle.request_dispatch.specs.declared.outstanding.Outstanding.{Outstanding}
 use Rattle.request_dispatch.specs.declared.step_state.StepState.{StepState}
 use Rattle.request_dispatch.specs.declared.tables.Tables.{Tables}
@@ -23,17 +24,17 @@ use Rattle.request_dispatch.specs.declared.waiting.Waiting.{Waiting}
 use Rattle.request_dispatch.specs.AttemptTable.{attempt_among}
 use Rattle.request_dispatch.specs.RequestTable.{RequestTable, request_among, tried_after, placed, waits_again, sent_back, lost}
 use Rattle.route_events.specs.Connections.{is_one_of}
-use Rattle.request_dispatch.specs.ConnectionTable.{with_origin, most_sends, without_request, misdirected_by, rebound}
+use Rattle.request_dispatch.specs.ConnectionTable.{most_sends, misdirected_by, is_left_out, rebound}
 use Rattle.router_core.specs.Reasons.{reason_of, reason_of_fact}
 use Rattle.router_core.specs.Effects.{ended, opened, made_of, begun_of, misdirected_for, rebound_by, answered_so, with_effect}
 
 -- a fact raises them by one request at most
 
-most_sends_append : (cs : List OpenConnection) (c : OpenConnection) → c.sends ≡ 0 → most_sends (cs ++ c ∷ []) ≡ most_sends cs
+most_sends_append : (cs : List Record) (c : Record) → c.sends ≡ 0 → most_sends (cs ++ c ∷ []) ≡ most_sends cs
 most_sends_append [] c none = rw none refl
 most_sends_append (b ∷ cs) c none = ap (max b.sends) (most_sends_append cs c none)
 
-most_sends_filter : (p : OpenConnection → Bool) (cs : List OpenConnection) → most_sends (filter p cs) ≤ most_sends cs
+most_sends_filter : (p : Record → Bool) (cs : List Record) → most_sends (filter p cs) ≤ most_sends cs
 most_sends_filter p [] = omega arith
 most_sends_filter p (c ∷ cs) = by_test (p c) (most_sends_filter p cs)
   where
@@ -43,7 +44,7 @@ most_sends_filter p (c ∷ cs) = by_test (p c) (most_sends_filter p cs)
     dropped : (a b c : ℕ) → b ≤ c → b ≤ max a c
     dropped a b c h = grind arith
 
-    by_test : (b : Bool) → most_sends (filter p cs) ≤ most_sends cs → most_sends (cond {A = List OpenConnection} b (c ∷ filter p cs) (filter p cs)) ≤ max c.sends (most_sends cs)
+    by_test : (b : Bool) → most_sends (filter p cs) ≤ most_sends cs → most_sends (cond {A = List Record} b (c ∷ filter p cs) (filter p cs)) ≤ max c.sends (most_sends cs)
     by_test true rest = kept c.sends (most_sends (filter p cs)) (most_sends cs) rest
     by_test false rest = dropped c.sends (most_sends (filter p cs)) (most_sends cs) rest
 
@@ -70,12 +71,16 @@ opened_small live s (Some a) p d port names = record {
 }
 
 -- what maps connections and leaves their sends leaves the most of them
-most_sends_kept : (f : OpenConnection → OpenConnection) (cs : List OpenConnection) → ((c : OpenConnection) → (f c).sends ≡ c.sends) → most_sends (map f cs) ≡ most_sends cs
+most_sends_kept : (f : Record → Record) (cs : List Record) → ((c : Record) → (f c).sends ≡ c.sends) → most_sends (map f cs) ≡ most_sends cs
 most_sends_kept f [] h = refl
 most_sends_kept f (c ∷ cs) h = λ i. max (h c i) (most_sends_kept f cs h i)
 
-rebound_kept : (as' : List Action) (cs : List OpenConnection) → most_sends (rebound_by as' cs) ≡ most_sends cs
-rebound_kept (Alternatives o value ∷ as') cs = most_sends_kept (rebound o (alternatives_of value)) cs (λ c. refl)
+rebound_kept : (as' : List Action) (cs : List Record) → most_sends (rebound_by as' cs) ≡ most_sends cs
+rebound_kept (Alternatives o value ∷ as') cs = most_sends_kept (rebound o (alternatives_of value)) cs (λ c. by_test c (is_left_out o (alternatives_of value) c))
+  where
+    by_test : (c : Record) (b : Bool) → (cond b (unbound c) c).sends ≡ c.sends
+    by_test c true = refl
+    by_test c false = refl
 rebound_kept [] cs = refl
 rebound_kept (OpenTo number origin route ∷ as') cs = refl
 rebound_kept (SendOn request conn stream used ∷ as') cs = refl
@@ -101,14 +106,14 @@ answer_length : (b : Bool) (request : ℕ) (t : RequestTable) → length (cond b
 answer_length true request t = again_length (request_among t.outstanding request) t.waiting
 answer_length false request t = omega arith
 
-misdirected_kept : (request status : ℕ) (found : Option Outstanding) (cs : List OpenConnection) → most_sends (misdirected_for request status found cs) ≡ most_sends cs
+misdirected_kept : (request status : ℕ) (found : Option Outstanding) (cs : List Record) → most_sends (misdirected_for request status found cs) ≡ most_sends cs
 misdirected_kept request status None cs = refl
 misdirected_kept request status (Some x) cs = by_status (nat_eq status 421)
   where
-    same : (c : OpenConnection) → (misdirected_by request x.request.origin c).sends ≡ c.sends
+    same : (c : Record) → (misdirected_by request x.request.origin c).sends ≡ c.sends
     same c = by_one (is_one_of request c.outstanding)
       where
-        by_one : (b : Bool) → (cond b (record { made = c.made; bound = c.bound; misdirected = with_origin x.request.origin c.misdirected; outstanding = c.outstanding; sends = c.sends }) c).sends ≡ c.sends
+        by_one : (b : Bool) → (cond b (with_misdirected x.request.origin c) c).sends ≡ c.sends
         by_one true = refl
         by_one false = refl
 
@@ -122,8 +127,8 @@ answered_small s request status found as' = record {
   waiting = answer_length (nat_eq status 421) request s.tables.requests;
   sends = omega (
     arith,
-    rebound_kept as' (map (without_request request) (misdirected_for request status found s.tables.connections)),
-    most_sends_kept (without_request request) (misdirected_for request status found s.tables.connections) (λ c. refl),
+    rebound_kept as' (map (with_answered request) (misdirected_for request status found s.tables.connections)),
+    most_sends_kept (with_answered request) (misdirected_for request status found s.tables.connections) (λ c. refl),
     misdirected_kept request status found s.tables.connections,
   );
 }
@@ -132,7 +137,7 @@ pub effect_small : (live : Origin → List Alt) (s : StepState) (f : Fact) → I
 effect_small live s (Request number origin) = record { opened = refl; waiting = omega (arith, length-append s.tables.requests.waiting (record { request = record { number = number; origin = origin }; tried = [] } ∷ [])); sends = omega arith }
 effect_small live s (Opened attempt proto addr port names) = opened_small live s (attempt_among s.tables.attempts.pending attempt) proto addr port names
 effect_small live s (Failed attempt) = ended_small s (attempt_among s.tables.attempts.pending attempt)
-effect_small live s (Closed conn) = record { opened = refl; waiting = omega arith; sends = most_sends_filter (λ (c : OpenConnection). not (nat_eq conn c.made.number)) s.tables.connections }
+effect_small live s (Closed conn) = record { opened = refl; waiting = omega arith; sends = most_sends_filter (λ (c : Record). not (nat_eq conn c.number)) s.tables.connections }
 effect_small live s (Response request status age altsvc) = answered_small s request status _ _
 effect_small live s Network = record { opened = refl; waiting = omega arith; sends = omega arith }
 effect_small live s Tick = record { opened = refl; waiting = omega arith; sends = omega arith }

@@ -28,12 +28,13 @@ use Rattle.route_events.proofs.Quiet.{is_none_left, best_in}
 use Rattle.route_events.proofs.Settles.{open_where}
 use Rattle.route_events.proofs.Sound.{Sound}
 use Rattle.request_dispatch.specs.declared.choice.Choice.TheVariants.{Wait, Refuse}
-use Rattle.request_dispatch.specs.declared.open_connection.OpenConnection.{OpenConnection}
+use Rattle.conn_states.specs.Record.{Record}
+use Rattle.conn_states.specs.Said.{said}
 use Rattle.request_dispatch.specs.declared.tables.Tables.{Tables}
 use Rattle.request_dispatch.specs.declared.waiting.Waiting.{Waiting}
 use Rattle.request_dispatch.specs.AttemptTable.{is_awaited}
-use Rattle.request_dispatch.specs.ConnectionTable.{said, connection_among, is_opened_by}
-use Rattle.request_dispatch.specs.Carriers.{is_carrier, is_free, candidates, best_connection}
+use Rattle.request_dispatch.specs.ConnectionTable.{connection_among, is_carrier, is_free, is_opened_by}
+use Rattle.request_dispatch.specs.Carriers.{candidates, best_connection}
 use Rattle.request_dispatch.specs.Looks.{Look, reach_at}
 use Rattle.request_dispatch.specs.Choices.{routes_to, may_take, usable, is_in_use, unless_in_use, beside, by_usable, otherwise, by_connection, choice, starting, actions_of}
 use Rattle.request_dispatch.proofs.Listing.{filter_map, first_map, any_filter, none_left_map, any_map, find_map, find_same, or_else_map, map_twice}
@@ -201,7 +202,7 @@ choice_is look t w j now sound sees hold tried =
     sending : ConnectionRecord → List Action → List Action
     sending r as' = SendOn w.request.number r.made.number (stream_after r.made.proto r.sends) (alt_used (rests_on r w.request.origin) r.made.route w.request.origin) ∷ as'
 
-    by_best : (v : Option OpenConnection) (free : Option Connection) → option_map said v ≡ option_map (record_of j) free →
+    by_best : (v : Option Record) (free : Option Connection) → option_map said v ≡ option_map (record_of j) free →
         actions_of t w (by_connection look t w v) ≡ decide j w.request now (first_alternative j w.request.origin now) free (list_any (has_pending j w.request.origin) (usable_routes j w.request now)) (usable_routes j w.request now) (carriers j w.request.origin now)
     by_best None None e = otherwise_is look t w j now (first_alternative j w.request.origin now) sees hold tried
     by_best None (Some c) e = absurd (true≢false (sym (ap is_some e)))

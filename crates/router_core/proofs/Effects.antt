@@ -26,7 +26,7 @@ use Rattle.route_events.specs.Connections.{connections, closes, is_open, open_co
 use Rattle.altsvc_grammar.specs.declared.alt.Alt.{Alt}
 use Rattle.route_events.specs.Misdirection.{is_misdirected}
 use Rattle.route_events.specs.Alternatives.{live}
-use Rattle.route_events.specs.Authority.{route_eq, is_success, gives, is_upheld}
+use Rattle.route_events.specs.Authority.{route_eq, is_success, gives, is_upheld, is_initial}
 use Rattle.route_events.specs.Routes.{was_tried}
 use Rattle.route_events.specs.Step.{with_actions}
 use Rattle.route_events.proofs.Lists.{IsIn, nat_eq-flip, nat_eq-below, in_filter, filter_same, filter_same_in, filter_end, filter_twice}
@@ -34,19 +34,24 @@ use Rattle.route_events.proofs.Sound.{Sound, opened_of}
 use Rattle.route_choice.specs.Usable.{is_listed}
 use Rattle.route_events.specs.Records.{ConnectionRecord}
 use Rattle.route_events.specs.Authority.{record_of}
-use Rattle.request_dispatch.specs.declared.open_connection.OpenConnection.{OpenConnection}
+use Rattle.conn_states.specs.Record.{Record}
+use Rattle.conn_states.specs.Said.{said}
 use Rattle.request_dispatch.specs.declared.outstanding.Outstanding.{Outstanding}
 use Rattle.request_dispatch.specs.declared.tables.Tables.{Tables}
 use Rattle.request_dispatch.specs.declared.waiting.Waiting.{Waiting}
 use Rattle.request_dispatch.specs.AttemptTable.{other_attempts, without_attempt}
 use Rattle.request_dispatch.specs.RequestTable.{RequestTable, requests_of, request_among, without_all, tried_more, tried_after, out_tried_after}
-use Rattle.request_dispatch.specs.ConnectionTable.{said, connection_among, other_connections, out_on}
+use Rattle.request_dispatch.specs.ConnectionTable.{connection_among, other_connections, out_on}
 use Rattle.request_dispatch.proofs.Listing.{map_same_in, filter_map, find_map, find_append}
 use Rattle.router_core.specs.Holds.{Hold, AreTried, IsOut, AreOut}
 use Rattle.router_core.specs.Effects.{made_of, begun_of}
 use Rattle.router_core.proofs.Applying.{tried_taken, tried_append}
 use Rattle.router_core.proofs.Choosing.{among_is}
 use Rattle.router_core.proofs.LeftOut.{out_moved, without_more, none_left_out, known_number}
+
+or_none : (b : Bool) → (b || false) ≡ b
+or_none true = refl
+or_none false = refl
 
 or_not : (a b : Bool) → not (a || b) ≡ (not b && not a)
 or_not true true = refl
@@ -179,7 +184,7 @@ hold_ended t j now m requests hold = record {
 begun_is : (live_now : Origin → List Alt) (j : Journal) (now m : ℕ) (c : Connection) (p : Proto) (d : Addr) (port : ℕ) (names : List CertName) → c.number ≡ m → Sound j → has_ended j m ≡ false → ((o : Origin) → live_now o ≡ live j o now) →
     said (begun_of live_now c) ≡ record_of (Happened now (fact.Opened m p d port names) true ∷ j) c
 begun_is live_now j now m c p d port names numbered sound fresh sees =
-    λ i. record { made = c; bound = is_success c && bound_now i; gated = false; holds = (record_of j c).holds; misdirected = λ o. not (sym own i) && is_misdirected j c o; outstanding = none i; sends = never i }
+    λ i. record { made = c; bound = is_success c && bound_now i; gated = false; holds = λ o. or_none (is_initial c o) i; misdirected = λ o. not (sym own i) && is_misdirected j c o; outstanding = none i; sends = never i }
   where
     own : nat_eq m c.number ≡ true
     own = ap (λ n. nat_eq m n) numbered ∙ eq_self m
@@ -252,7 +257,7 @@ out_on_is t j c hold h =
     out_of_record None = []
     out_of_record (Some r) = r.outstanding
 
-    out_of : (v : Option OpenConnection) → out_on v ≡ out_of_record (option_map said v)
+    out_of : (v : Option Record) → out_on v ≡ out_of_record (option_map said v)
     out_of None = refl
     out_of (Some k) = refl
 

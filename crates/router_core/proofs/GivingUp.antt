@@ -25,11 +25,12 @@ use Rattle.route_events.specs.Authority.{record_of}
 use Rattle.route_events.proofs.Lists.{IsIn, AreApart, apart_filter}
 use Rattle.route_events.proofs.OutstandingInWords.{in_one_of}
 use Rattle.route_events.proofs.Sound.{Sound}
-use Rattle.request_dispatch.specs.declared.open_connection.OpenConnection.{OpenConnection}
+use Rattle.conn_states.specs.Record.{Record}
+use Rattle.conn_states.specs.Said.{said}
 use Rattle.request_dispatch.specs.declared.outstanding.Outstanding.{Outstanding}
 use Rattle.request_dispatch.specs.declared.tables.Tables.{Tables}
 use Rattle.request_dispatch.specs.RequestTable.{request_among}
-use Rattle.request_dispatch.specs.ConnectionTable.{said, carrying}
+use Rattle.request_dispatch.specs.ConnectionTable.{carrying}
 use Rattle.request_dispatch.proofs.Listing.{find_map}
 use Rattle.router_core.specs.Holds.{Hold, AreOut}
 use Rattle.router_core.specs.Notes.{key_of, given_up_on, given_up}
@@ -127,7 +128,7 @@ given_up_is t j request status age altsvc o key sound hold outs out = by_back (n
     by_record : Bool → ConnectionRecord → Bool
     by_record b r = was_opened_by o key r.made && b
 
-    kept_by : (x : Outstanding) (v : Option OpenConnection) → is_given (given_up_on (Some x) v) o key ≡ option_map_or (by_record (origin_eq x.request.origin o)) (option_map said v) false
+    kept_by : (x : Outstanding) (v : Option Record) → is_given (given_up_on (Some x) v) o key ≡ option_map_or (by_record (origin_eq x.request.origin o)) (option_map said v) false
     kept_by x None = refl
     kept_by x (Some c) = led_is c.made.origin x.request.origin o key c.made.route
 

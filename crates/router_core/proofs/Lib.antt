@@ -1,5 +1,6 @@
 mod Knowing
 mod Choosing
+mod Permitted
 mod Applying
 mod SettlingSo
 mod LeftOut

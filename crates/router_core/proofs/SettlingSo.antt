@@ -4,6 +4,7 @@ use Rattle.std.proofs.lemmas.List.{map-append}
 use Rattle.alt_base.proofs.Numbers.{eq_self, true_eq}
 use Rattle.alt_base.proofs.Booleans.{contradicts}
 use Rattle.std.specs.Option.{option_map_or}
+use Rattle.origin_values.specs.declared.address.Addr.{Addr}
 use Rattle.origin_values.specs.declared.host.Host.{Host}
 use Rattle.origin_values.specs.declared.origin.Origin.{Origin}
 use Rattle.route_choice.specs.Usable.{is_listed}
@@ -34,6 +35,7 @@ use Rattle.request_dispatch.proofs.Listing.{find_append}
 use Rattle.router_core.specs.Holds.{Hold, AreTried, IsOut, AreOut}
 use Rattle.router_core.proofs.Knowing.{Sees, sees_still, said_dispatched}
 use Rattle.router_core.proofs.Choosing.{choice_is}
+use Rattle.router_core.proofs.Permitted.{MayCarry, MayDo, permitted}
 use Rattle.router_core.proofs.Applying.{hold_open, hold_send, hold_refuse, hold_requests, tried_taken, tried_with, tried_append}
 
 -- the tables, the requests that wait, those that are outstanding and the actions are those of a journal
@@ -167,10 +169,10 @@ keeps_waiting s j asked w own keeps = record {
   written = keeps.written;
 }
 
-keeps_send : (s : StepState) (j : Journal) (asked : List Request) (w : Waiting) (conn : ℕ) (stream : Option ℕ) (used : Option (Host × ℕ)) → IsKnown j w.request → HasTried j w → Keeps s j asked →
-    Keeps (with_send w conn stream used s) (Taken (SendOn w.request.number conn stream used) ∷ j) asked
-keeps_send s j asked w conn stream used known own keeps = record {
-  tables = hold_send s.tables j w.request.number conn stream used _ keeps.tables;
+keeps_send : (at : Origin → Addr → Bool) (s : StepState) (j : Journal) (asked : List Request) (w : Waiting) (conn : ℕ) (stream : Option ℕ) (used : Option (Host × ℕ)) → IsKnown j w.request → HasTried j w → MayCarry at w.request.origin conn w.request.number s.tables.connections → Keeps s j asked →
+    Keeps (with_send at w conn stream used s) (Taken (SendOn w.request.number conn stream used) ∷ j) asked
+keeps_send at s j asked w conn stream used known own may keeps = record {
+  tables = hold_send at w.request.origin s.tables j w.request.number conn stream used _ may keeps.tables;
   waiting = keeps.waiting;
   tried = tried_taken j (SendOn w.request.number conn stream used) s.tables.requests.waiting keeps.tried;
   outstanding = out_more j w conn stream used s.tables.requests.outstanding known own keeps.outstanding;
@@ -186,19 +188,19 @@ keeps_refuse s j asked w known keeps = record {
   written = ap (λ (as' : List Action). as' ++ RefuseAction w.request.number ∷ []) keeps.written;
 }
 
-keeps_choice : (s : StepState) (j : Journal) (asked : List Request) (w : Waiting) (ch : Choice) → ((m : ℕ) → length (attempts j) < m → has_ended j m ≡ false) → IsKnown j w.request → HasTried j w → Keeps s j asked →
-    Keeps (by_choice s w ch) (with_actions j (actions_of s.tables w ch)) (asked ++ cond (waits_on ch) (w.request ∷ []) [])
-keeps_choice s j asked w Wait fresh known own keeps = keeps_waiting s j asked w own keeps
-keeps_choice s j asked w (Open r) fresh known own keeps =
+keeps_choice : (at : Origin → Addr → Bool) (s : StepState) (j : Journal) (asked : List Request) (w : Waiting) (ch : Choice) → ((m : ℕ) → length (attempts j) < m → has_ended j m ≡ false) → IsKnown j w.request → HasTried j w → MayDo at s.tables.connections w ch → Keeps s j asked →
+    Keeps (by_choice at s w ch) (with_actions j (actions_of s.tables w ch)) (asked ++ cond (waits_on ch) (w.request ∷ []) [])
+keeps_choice at s j asked w Wait fresh known own may keeps = keeps_waiting s j asked w own keeps
+keeps_choice at s j asked w (Open r) fresh known own may keeps =
     keeps_waiting (with_start w.request.origin r s) (Taken (OpenTo (s.tables.attempts.opened + 1) w.request.origin r) ∷ j) asked w own (keeps_start s j asked w.request.origin r fresh keeps)
-keeps_choice s j asked w (Send conn stream used None) fresh known own keeps =
-    subst (Keeps (with_send w conn stream used s) (Taken (SendOn w.request.number conn stream used) ∷ j)) (sym (append-nil asked)) (keeps_send s j asked w conn stream used known own keeps)
-keeps_choice s j asked w (Send conn stream used (Some r)) fresh known own keeps =
-    let sent : StepState = with_send w conn stream used s in
+keeps_choice at s j asked w (Send conn stream used None) fresh known own may keeps =
+    subst (Keeps (with_send at w conn stream used s) (Taken (SendOn w.request.number conn stream used) ∷ j)) (sym (append-nil asked)) (keeps_send at s j asked w conn stream used known own may keeps)
+keeps_choice at s j asked w (Send conn stream used (Some r)) fresh known own may keeps =
+    let sent : StepState = with_send at w conn stream used s in
     let k : Journal = Taken (SendOn w.request.number conn stream used) ∷ j in
     subst (Keeps (with_start w.request.origin r sent) (Taken (OpenTo (s.tables.attempts.opened + 1) w.request.origin r) ∷ k)) (sym (append-nil asked))
-    (keeps_start sent k asked w.request.origin r fresh (keeps_send s j asked w conn stream used known own keeps))
-keeps_choice s j asked w Refuse fresh known own keeps =
+    (keeps_start sent k asked w.request.origin r fresh (keeps_send at s j asked w conn stream used known own may keeps))
+keeps_choice at s j asked w Refuse fresh known own may keeps =
     subst (Keeps (with_refusal w s) (Taken (RefuseAction w.request.number) ∷ j)) (sym (append-nil asked)) (keeps_refuse s j asked w known keeps)
 
 -- all that the requests that are settled owe
@@ -239,9 +241,9 @@ one_keeps look s j now w ws asked owed keeps = subst (λ as'. Keeps (settled_by 
     known : IsKnown j w.request
     known = record { waits_yet = here.1; is = find_apart number_of (requests j) w.request owed.sound.requests_apart here.0 }
 
-    listed : Keeps (by_choice s w ch) (with_actions j as') (asked ++ still_waiting (with_actions j as') (w.request ∷ []))
-    listed = subst (λ b. Keeps (by_choice s w ch) (with_actions j as') (asked ++ cond b (w.request ∷ []) [])) (sym (waits_after s.tables j w ch here.1))
-        (keeps_choice s j asked w ch owed.sound.not_ended known owed.tried.0 keeps)
+    listed : Keeps (by_choice look.is_address s w ch) (with_actions j as') (asked ++ still_waiting (with_actions j as') (w.request ∷ []))
+    listed = subst (λ b. Keeps (by_choice look.is_address s w ch) (with_actions j as') (asked ++ cond b (w.request ∷ []) [])) (sym (waits_after s.tables j w ch here.1))
+        (keeps_choice look.is_address s j asked w ch owed.sound.not_ended known owed.tried.0 (permitted look s.tables w j now owed.sound owed.sees keeps.tables here.1) keeps)
 
 -- what is owed for the requests after the first
 then_asked : (look : Look) (j : Journal) (now : ℕ) (w : Waiting) (ws : List Waiting) → Asked look j now (w ∷ ws) → Asked look (with_actions j (dispatch j w.request now)) now ws

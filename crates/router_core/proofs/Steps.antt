@@ -35,12 +35,13 @@ use Rattle.route_events.proofs.Runs.{each, allowed_at, all_settled, are_effects,
 use Rattle.altsvc_grammar.specs.declared.alt_key.AltKey.{AltKey}
 use Rattle.network_cache.specs.Freshness.{is_fresh}
 use Rattle.route_events.specs.declared.route.Route.TheVariants.{Direct, Alt}
+use Rattle.conn_states.specs.Said.{said}
 use Rattle.request_dispatch.specs.declared.step_state.StepState.{StepState}
 use Rattle.request_dispatch.specs.declared.tables.Tables.{Tables}
 use Rattle.request_dispatch.specs.declared.waiting.Waiting.{Waiting}
 use Rattle.request_dispatch.specs.AttemptTable.{attempt_among, other_attempts}
 use Rattle.request_dispatch.specs.RequestTable.{requests_of, without_all, after_end}
-use Rattle.request_dispatch.specs.ConnectionTable.{said, connection_among, out_on}
+use Rattle.request_dispatch.specs.ConnectionTable.{connection_among, out_on}
 use Rattle.request_dispatch.specs.Looks.{Look, live_at, look_of}
 use Rattle.request_dispatch.specs.StepStates.{none_waiting}
 use Rattle.router_core.specs.declared.router.Router.{Router}
@@ -73,7 +74,7 @@ some_map : {X Y : Type 0} (f : X → Y) (w : Option X) → is_some (option_map f
 some_map f None = refl
 some_map f (Some x) = refl
 
-open_is : (t : Tables) (j : Journal) (c : ℕ) → Hold t j → is_some (connection_among t.connections c) ≡ is_open_number j c
+pub open_is : (t : Tables) (j : Journal) (c : ℕ) → Hold t j → is_some (connection_among t.connections c) ≡ is_open_number j c
 open_is t j c hold =
     sym (some_map said (connection_among t.connections c))
     ∙ ap is_some (among_is t j c hold)

@@ -3,6 +3,8 @@ use Rattle.std.specs.Prelude.{ℕ, not, ◌&&◌, nat_eq, List, [], ◌∷◌, �
 use Rattle.std.specs.Option.{option_map_or}
 use Rattle.altsvc_grammar.specs.declared.alt.Alt.{Alt}
 use Rattle.coalescing.specs.declared.cert_name.CertName.{CertName}
+use Rattle.conn_states.specs.Changes.{with_answered}
+use Rattle.conn_states.specs.Record.{Record}
 use Rattle.origin_values.specs.declared.address.Addr.{Addr}
 use Rattle.origin_values.specs.declared.origin.Origin.{Origin}
 use Rattle.origin_values.specs.declared.proto.Proto.{Proto}
@@ -16,13 +18,12 @@ use Rattle.route_events.specs.declared.request.Request.{Request as RequestValue}
 use Rattle.route_events.specs.Alternatives.{alternatives_of}
 use Rattle.route_events.specs.Authority.{is_https, is_success, gives}
 use Rattle.route_events.specs.Advertisements.{value_taken, retries}
-use Rattle.request_dispatch.specs.declared.open_connection.OpenConnection.{OpenConnection}
 use Rattle.request_dispatch.specs.declared.outstanding.Outstanding.{Outstanding}
 use Rattle.request_dispatch.specs.declared.step_state.StepState.{StepState}
 use Rattle.request_dispatch.specs.AttemptTable.{attempt_among, without_attempt}
 use Rattle.request_dispatch.specs.RequestTable as requests
 use Rattle.request_dispatch.specs.RequestTable.{RequestTable, request_among, after_end, lost, sent_back}
-use Rattle.request_dispatch.specs.ConnectionTable.{begun, connection_among, other_connections, out_on, without_request, misdirected_by, rebound}
+use Rattle.request_dispatch.specs.ConnectionTable.{begun, connection_among, other_connections, out_on, misdirected_by, rebound}
 use Rattle.request_dispatch.specs.Carriers.{is_answered_by_authority}
 use Rattle.request_dispatch.specs.Looks.{no_address}
 
@@ -41,7 +42,7 @@ ended s (Some a) = with_end s a
 abbrev pub made_of : Attempt → Proto → Addr → ℕ → List CertName → Connection
 made_of a proto addr port names = record { number = a.number; origin = a.origin; route = a.route; proto = proto; addr = addr; port = port; names = names }
 
-abbrev pub begun_of : (Origin → List Alt) → Connection → OpenConnection
+abbrev pub begun_of : (Origin → List Alt) → Connection → Record
 begun_of live c = begun c (is_success c && gives (live c.origin) c.route)
 
 abbrev pub with_connection : (Origin → List Alt) → StepState → Connection → StepState
@@ -73,28 +74,28 @@ arrived s number origin = record {
 }
 
 -- what is done for the Alt-Svc of a response
-abbrev pub advertised : List OpenConnection → ℕ → RequestValue → List ℕ → Action
+abbrev pub advertised : List Record → ℕ → RequestValue → List ℕ → Action
 advertised connections status q bytes =
     if nat_eq status 421 then Field q.number 11 0
     else (if not (is_https q.origin.scheme) then Field q.number 12 0
     else (if not (is_answered_by_authority no_address q.number q.origin connections) then Field q.number 13 0
     else value_taken q bytes))
 
-abbrev pub field_done : List OpenConnection → ℕ → Option (List ℕ) → Outstanding → List Action
+abbrev pub field_done : List Record → ℕ → Option (List ℕ) → Outstanding → List Action
 field_done connections status None x = []
 field_done connections status (Some bytes) x = advertised connections status x.request bytes ∷ []
 
 -- the actions of a response: a request that was turned away is tried again, and then what is done for the Alt-Svc
-abbrev pub answer_done : List OpenConnection → ℕ → ℕ → Option (List ℕ) → Option Outstanding → List Action
+abbrev pub answer_done : List Record → ℕ → ℕ → Option (List ℕ) → Option Outstanding → List Action
 answer_done connections request status altsvc found = retries request status ++ option_map_or (field_done connections status altsvc) found []
 
 -- a connection whose server says that it isn't the origin's is misdirected for the request's origin (RFC 9110 15.5.20)
-abbrev pub misdirected_for : ℕ → ℕ → Option Outstanding → List OpenConnection → List OpenConnection
+abbrev pub misdirected_for : ℕ → ℕ → Option Outstanding → List Record → List Record
 misdirected_for request status None connections = connections
 misdirected_for request status (Some x) connections = if nat_eq status 421 then map (misdirected_by request x.request.origin) connections else connections
 
 -- a value that was taken, for the connections
-abbrev pub rebound_by : List Action → List OpenConnection → List OpenConnection
+abbrev pub rebound_by : List Action → List Record → List Record
 rebound_by (Alternatives origin value ∷ actions) connections = map (rebound origin (alternatives_of value)) connections
 rebound_by _ connections = connections
 
@@ -107,7 +108,7 @@ answered_so s request status found actions = record {
   tables = record {
     attempts = s.tables.attempts;
     requests = after_answer request status s.tables.requests;
-    connections = rebound_by actions (map (without_request request) (misdirected_for request status found s.tables.connections));
+    connections = rebound_by actions (map (with_answered request) (misdirected_for request status found s.tables.connections));
   };
   actions = s.actions ++ actions;
 }

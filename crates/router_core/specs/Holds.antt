@@ -12,7 +12,7 @@ use Rattle.request_dispatch.specs.declared.outstanding.Outstanding.{Outstanding}
 use Rattle.request_dispatch.specs.declared.tables.Tables.{Tables}
 use Rattle.request_dispatch.specs.declared.waiting.Waiting.{Waiting}
 use Rattle.request_dispatch.specs.RequestTable.{request_among}
-use Rattle.request_dispatch.specs.ConnectionTable.{said}
+use Rattle.conn_states.specs.Said.{said}
 
 -- the tables of attempts and of connections: how many attempts there were, those that are pending, and each open
 -- connection, in the order of opening, by what it says of itself

@@ -3,6 +3,7 @@ use Rattle.std.specs.Prelude.{ℕ, Bool, true, false, List, ◌∷◌, map, filt
 use Rattle.std.specs.Option.{option_and_then}
 use Rattle.altsvc_grammar.specs.declared.alt_key.AltKey.{AltKey}
 use Rattle.coalescing.specs.declared.cert_name.CertName.{CertName}
+use Rattle.conn_states.specs.Record.{Record}
 use Rattle.origin_values.specs.Equality.{origin_eq}
 use Rattle.origin_values.specs.declared.origin.Origin.{Origin}
 use Rattle.origin_values.specs.declared.proto.Proto.{Proto}
@@ -19,7 +20,6 @@ use Rattle.route_events.specs.declared.attempt.Attempt.{Attempt}
 use Rattle.route_events.specs.Alternatives.{alternatives_of}
 use Rattle.route_events.specs.Misdirection.{turned_away_in}
 use Rattle.route_events.specs.Backoff.{Failures, no_failures, failed_at, is_on}
-use Rattle.request_dispatch.specs.declared.open_connection.OpenConnection.{OpenConnection}
 use Rattle.request_dispatch.specs.declared.outstanding.Outstanding.{Outstanding}
 use Rattle.request_dispatch.specs.declared.tables.Tables.{Tables}
 use Rattle.request_dispatch.specs.AttemptTable.{attempt_among}
@@ -57,12 +57,12 @@ abbrev pub key_of : Origin → Route → Option (Origin × AltKey)
 key_of o Direct = None
 key_of o (Alt key) = Some (o, key)
 
-abbrev pub led_by : Origin → OpenConnection → Option (Origin × AltKey)
+abbrev pub led_by : Origin → Record → Option (Origin × AltKey)
 led_by o c = if origin_eq c.made.origin o then key_of o c.made.route else None
 
 -- the alternative that a fact gives up, with its origin: the one by which the connection was opened for the origin whose
 -- request is turned away on it (RFC 9110 15.5.20)
-abbrev pub given_up_on : Option Outstanding → Option OpenConnection → Option (Origin × AltKey)
+abbrev pub given_up_on : Option Outstanding → Option Record → Option (Origin × AltKey)
 given_up_on (Some x) (Some c) = led_by x.request.origin c
 given_up_on _ _ = None
 

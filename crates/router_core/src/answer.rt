@@ -3,7 +3,7 @@ ghost use Rattle.std.specs.Option.{option_copied, option_map_or};
 ghost use Rattle.altsvc_grammar.specs.ValueReading.{read_value};
 ghost use Rattle.route_events.specs.Advertisements.{value_of_reading, value_taken, retries};
 ghost use Rattle.request_dispatch.specs.RequestTable.{request_among};
-ghost use Rattle.request_dispatch.specs.ConnectionTable.{without_request, misdirected_by};
+ghost use Rattle.request_dispatch.specs.ConnectionTable.{misdirected_by};
 ghost use Rattle.router_core.specs.Effects.{advertised, field_done, answer_done, misdirected_for, rebound_by, after_answer, answered_so, answered};
 
 use crate::misdirection::MISDIRECTED;
@@ -131,7 +131,6 @@ fn answer_actions(
 
 // The connection of a request that was turned away is misdirected for its origin.
 fn misdirect(
-    alloc: Global,
     found: Option<&Outstanding>,
     connections: &mut Connections,
     request: u32,
@@ -141,12 +140,11 @@ fn misdirect(
 {
     match found {
         None => Ok(()),
-        Some(sent) => misdirect_for(alloc, &sent.request.origin, connections, request, status),
+        Some(sent) => misdirect_for(&sent.request.origin, connections, request, status),
     }
 }
 
 fn misdirect_for(
-    alloc: Global,
     origin: &Origin,
     connections: &mut Connections,
     request: u32,
@@ -155,7 +153,7 @@ fn misdirect_for(
     ensures { OnOk result (connections.new ≡ (if nat_eq status 421 then map (misdirected_by request origin.now) connections.old else connections.old)) }
 {
     if status == MISDIRECTED {
-        return connections.misdirect(alloc, request, origin);
+        return connections.misdirect(request, origin);
     }
     Ok(())
 }
@@ -210,8 +208,8 @@ pub(crate) fn answer(
 {
     let actions = answer_actions(alloc, state, request, status, &altsvc)?;
     let found = state.tables.requests.of_number(request);
-    misdirect(alloc, found, &mut state.tables.connections, request, status)?;
-    state.tables.connections.note_answer(alloc, request);
+    misdirect(found, &mut state.tables.connections, request, status)?;
+    state.tables.connections.note_answer(request);
     rebind_by(actions.as_slice(), &mut state.tables.connections);
     end_or_send_back(alloc, &mut state.tables.requests, request, status)?;
     append_actions(&mut state.actions, actions)

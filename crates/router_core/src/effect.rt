@@ -2,7 +2,6 @@ ghost use Rattle.std.specs.Prelude.{◌≡◌, ◌≤◌, ◌++◌, map, OnOk};
 ghost use Rattle.network_cache.specs.Contents.{newest_moment};
 ghost use Rattle.route_events.specs.declared.action.Action.TheVariants.{Lost as LostAction};
 ghost use Rattle.request_dispatch.specs.AttemptTable.{attempt_among};
-ghost use Rattle.request_dispatch.specs.ConnectionTable.{connection_among, out_on};
 ghost use Rattle.request_dispatch.specs.Looks.{live_at};
 ghost use Rattle.router_core.specs.Effects.{arrived, ended, opened, closed, with_effect, with_end, with_connection};
 
@@ -11,7 +10,7 @@ use alt_base::{Duplicate, Moment, NoMemory};
 use coalescing::CertNames;
 use network_cache::Cache;
 use origin_values::{Addr, Origin, Proto};
-use request_dispatch::{Connections, StepState, gives, is_success};
+use request_dispatch::{StepState, gives, is_success};
 use route_events::{Action, Actions, Attempt, Connection, Fact};
 use std::alloc::Global;
 
@@ -103,22 +102,12 @@ fn lose_all(actions: &mut Actions, requests: &[u32]) -> Result<(), NoMemory>
     Ok(())
 }
 
-fn outstanding_on(connections: &Connections, conn: u64) -> &[u32]
-    ensures { result.now ≡ out_on (connection_among connections.now conn) }
-{
-    match connections.of_number(conn) {
-        None => &[],
-        Some(connection) => connection.outstanding.as_slice(),
-    }
-}
-
-fn close(state: &mut StepState, conn: u64) -> Result<(), NoMemory>
+fn close(alloc: Global, state: &mut StepState, conn: u64) -> Result<(), NoMemory>
     ensures { OnOk result (state.new ≡ closed state.old conn) }
 {
-    let out = outstanding_on(&state.tables.connections, conn);
-    lose_all(&mut state.actions, out)?;
-    state.tables.requests.lose(out);
-    state.tables.connections.close(conn);
+    let lost = state.tables.connections.close(alloc, conn);
+    lose_all(&mut state.actions, lost.as_slice())?;
+    state.tables.requests.lose(lost.as_slice());
     Ok(())
 }
 
@@ -155,7 +144,7 @@ pub(crate) fn take_fact(
             },
         ),
         Fact::Failed { attempt } => fail(alloc, state, attempt),
-        Fact::Closed { conn } => close(state, conn),
+        Fact::Closed { conn } => close(alloc, state, conn),
         Fact::Response {
             request,
             status,

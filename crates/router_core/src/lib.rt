@@ -12,4 +12,5 @@ mod router;
 
 pub use fault::StepFault;
 pub use laws::alike_histories;
+pub use request_dispatch::Lent;
 pub use router::Router;

@@ -59,8 +59,8 @@ fn led_by(
 ) -> Result<Option<(Origin, AltKey)>, NoMemory>
     ensures { IfOk result (λ led. led ≡ led_by origin.now connection.now) }
 {
-    if same_origin(&connection.made.origin, origin) {
-        return key_of(alloc, origin, &connection.made.route);
+    if same_origin(&connection.made().origin, origin) {
+        return key_of(alloc, origin, &connection.made().route);
     }
     Ok(None)
 }

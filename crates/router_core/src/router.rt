@@ -1,8 +1,9 @@
-ghost use Rattle.std.specs.Prelude.{◌≡◌, ◌≤◌, ◌<◌, ◌+◌, ◌*◌, [], ℕ, length, IfOk, IfErr};
+ghost use Rattle.std.specs.Prelude.{◌≡◌, ◌≤◌, ◌<◌, ◌+◌, ◌*◌, [], ℕ, length, is_some, IfSome, IfOk, IfErr};
 ghost use Rattle.network_cache.specs.Contents.{newest_moment};
 ghost use Rattle.route_choice.specs.Contents.{newest_moment as newest_failure};
 ghost use Rattle.std.specs.Option.{option_copied, option_map};
 ghost use Rattle.request_dispatch.specs.ConnectionTable.{most_sends};
+ghost use Rattle.request_dispatch.specs.OpenConnections.{record_lent};
 ghost use Rattle.request_dispatch.specs.RequestTable.{request_among};
 
 use crate::StepFault;
@@ -13,7 +14,9 @@ use crate::reason::{newest_after, reason_of};
 use alt_base::{ListOf, Moment};
 use network_cache::Cache;
 use origin_values::Origin;
-use request_dispatch::{Attempts, Connections, Requests, StepState, Tables, settle};
+use request_dispatch::{
+    Attempts, Connections, Lent, OpenConnection, Requests, StepState, Tables, settle,
+};
 use route_choice::Broken;
 use route_events::{Actions, Fact};
 use std::alloc::Global;
@@ -44,6 +47,15 @@ fn origin_of(requests: &Requests, request: u32) -> Option<&Origin>
     }
 }
 
+fn lent(connection: Option<&OpenConnection>) -> Option<Lent<'_>>
+    ensures { option_map record_lent result ≡ option_copied connection.entry }
+{
+    match connection {
+        None => None,
+        Some(connection) => Some(connection.lend()),
+    }
+}
+
 impl Router {
     ghost use Rattle.origin_values.specs.declared.origin.Origin.{Origin as OriginValue};
     ghost use Rattle.network_cache.specs.Contents.{live};
@@ -55,7 +67,8 @@ impl Router {
     ghost use Rattle.route_events.specs.Step.{step};
     ghost use Rattle.route_events.specs.Headline.{SendsOnlyOn, RefusesOnlyWhere, WaitsOnlyFor};
     ghost use Rattle.router_core.specs.Becomes.{Becomes};
-    ghost use Rattle.router_core.specs.Lent.{outstanding_origin};
+    ghost use Rattle.route_events.specs.Connections.{is_open_number};
+    ghost use Rattle.router_core.specs.Lent.{outstanding_origin, IsLent};
     ghost use Rattle.router_core.specs.Reasons.{reason_of};
     ghost use Rattle.router_core.specs.StandsFor.{StandsFor, Takes, Refuses};
 
@@ -110,6 +123,15 @@ impl Router {
         ensures { (journal : Journal) → StandsFor self.now journal → option_copied result ≡ outstanding_origin journal request }
     {
         origin_of(&self.tables.requests, request)
+    }
+
+    /// The open connection of a number, lent in its state; None exactly where no connection of that number is open. What it
+    /// says of itself is what the journal says of it. It takes no memory.
+    pub fn conn(&self, conn: u64) -> Option<Lent<'_>>
+        ensures open { (journal : Journal) → StandsFor self.now journal → is_some result ≡ is_open_number journal conn }
+        ensures lent { (journal : Journal) → StandsFor self.now journal → IfSome result (λ lent. IsLent journal conn (record_lent lent)) }
+    {
+        lent(self.tables.connections.of_number(conn))
     }
 
     /// What is known of the alternatives of origins: at each moment from that of the newest step on, what the journal says

@@ -2,7 +2,7 @@ use Rattle.std.proofs.Common.{refl, ap, [], sym, ◌∙◌, subst, map, filter}
 use Rattle.network_cache.specs.Freshness.{is_fresh}
 use Rattle.route_events.specs.Step.{Begun}
 use Rattle.request_dispatch.specs.AttemptTable.{AttemptTable}
-use Rattle.request_dispatch.specs.ConnectionTable.{said}
+use Rattle.conn_states.specs.Said.{said}
 use Rattle.request_dispatch.specs.RequestTable.{RequestTable, requests_of}
 use Rattle.router_core.specs.Holds.{AreTried, AreOut}
 use Rattle.router_core.proofs.Noting.{fresh_alts}

@@ -21,7 +21,8 @@ settle-requires-clause-opened c =
 pub settle-requires-clause-sends : goal.settle-requires-clause-sends
 settle-requires-clause-sends c =
     let small = effect_small (live_at c.args.self.alternatives c.args.now.0) (begun c.args.self) c.args.fact in
-    rw (c.in_ok-take_fact.ensures, c.new.ensures) (omega (arith, small.sends, small.waiting, c.args.self.few_sends, c.args.self.bounded))
+    let room = not_spent c.args.self.facts c.args.self.last c.args.self.newest c.args.self.tables c.args.now.0 c.args.fact c.args.self.bounded c.requires in
+    rw (c.in_ok-take_fact.ensures, c.new.ensures) (omega (arith, small.sends, small.waiting, c.args.self.few_sends, room))
 
 pub invariant_of-result-clause-bounded : goal.invariant_of-result-clause-bounded
 invariant_of-result-clause-bounded c =

@@ -1,5 +1,5 @@
 use Rattle.request_dispatch.specs.ConnectionTable.{misdirected_by}
-use Rattle.request_dispatch.proofs.open_connection.misdirect_all.Goals as goal
+use Rattle.request_dispatch.proofs.connection_changes.misdirect_all.Goals as goal
 use Rattle.alt_base.proofs.Lists.{set_mapped}
 
 pub loop-connection-preserved : goal.loop-connection-preserved

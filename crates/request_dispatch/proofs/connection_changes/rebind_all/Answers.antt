@@ -1,5 +1,5 @@
 use Rattle.request_dispatch.specs.ConnectionTable.{rebound}
-use Rattle.request_dispatch.proofs.open_connection.rebind_all.Goals as goal
+use Rattle.request_dispatch.proofs.connection_changes.rebind_all.Goals as goal
 use Rattle.alt_base.proofs.Lists.{set_mapped}
 
 pub loop-connection-preserved : goal.loop-connection-preserved
