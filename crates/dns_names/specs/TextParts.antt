@@ -61,6 +61,10 @@ is_special b = nat_eq b 34 || (nat_eq b 36 || (nat_eq b 40 || (nat_eq b 41 || (n
 abbrev pub part_of : ℕ → Part
 part_of b = if is_special b then Quoted b else (if is_ascii_graphic b then Raw b else Decimal (48 + b / 100) (48 + b / 10 % 10) (48 + b % 10))
 
+-- a special byte stands behind a backslash, another one that is shown for itself, and any other as three digits
+abbrev pub part_by : Bool → Bool → ℕ → Part
+part_by special shown b = if special then Quoted b else (if shown then Raw b else Decimal (48 + b / 100) (48 + b / 10 % 10) (48 + b % 10))
+
 -- what is written for a name
 abbrev pub text_form : List (List ℕ) → List ℕ
 text_form [] = 46 ∷ []

@@ -3,6 +3,7 @@
 
 mod laws;
 mod name;
+mod part;
 mod refusal;
 #[cfg(test)]
 mod tests;
@@ -16,4 +17,5 @@ pub use laws::{
     wire_reads_back,
 };
 pub use name::Name;
+pub use part::{decimal_byte, write_part};
 pub use refusal::NameRefusal;

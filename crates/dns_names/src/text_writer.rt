@@ -1,6 +1,7 @@
 ghost use Rattle.std.specs.Prelude.{◌≡◌, ◌++◌, map, IfOk, OnOk};
 ghost use Rattle.dns_names.specs.TextParts.{is_special, part_of, part_text, parts_text, text_form};
 
+use crate::part::write_part;
 use alt_base::{Bytes, NoMemory};
 use std::alloc::Global;
 
@@ -22,21 +23,7 @@ fn is_special(byte: u8) -> bool
 fn write_byte(text: &mut Vec<u8>, byte: u8) -> Result<(), NoMemory>
     ensures { OnOk result (text.new.items ≡ text.old.items ++ part_text (part_of byte)) }
 {
-    if is_special(byte) {
-        text.extend_from_slice(&[b'\\', byte])?;
-        Ok(())
-    } else if byte.is_ascii_graphic() {
-        text.push(byte)?;
-        Ok(())
-    } else {
-        text.extend_from_slice(&[
-            b'\\',
-            b'0' + byte / 100,
-            b'0' + byte / 10 % 10,
-            b'0' + byte % 10,
-        ])?;
-        Ok(())
-    }
+    write_part(text, byte, is_special(byte), byte.is_ascii_graphic())
 }
 
 // Appends what is written for a label, without its dot.

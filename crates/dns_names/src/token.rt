@@ -1,9 +1,9 @@
-ghost use Rattle.std.specs.Prelude.{◌≡◌, true, if◌then◌else◌};
+ghost use Rattle.std.specs.Prelude.{◌≡◌, true};
 ghost use Rattle.std.specs.Char.{is_ascii_digit};
-ghost use Rattle.dns_names.specs.TextParts.{decimal_value};
-ghost use Rattle.dns_names.specs.TextReading.{token_at, escape_at, decimal_at, is_decimal};
+ghost use Rattle.dns_names.specs.TextReading.{token_at, escape_at, decimal_at};
 
 use crate::NameRefusal;
+use crate::part::decimal_byte;
 
 /// What a text begins with: its end, a dot, a label's byte that so many bytes spell, or what is refused.
 pub(crate) enum Token {
@@ -75,21 +75,4 @@ fn decimal_at(hundreds: u8, text: &[u8]) -> Token
             reason: NameRefusal::BadEscape,
         },
     }
-}
-
-// The byte that three digits write, the first of which is one.
-fn decimal_byte(hundreds: u8, tens: u8, ones: u8) -> Option<u8>
-    requires { is_ascii_digit hundreds ≡ true }
-    ensures { result ≡ (if is_decimal hundreds tens ones then Some (decimal_value hundreds tens ones) else None) }
-{
-    if !tens.is_ascii_digit() || !ones.is_ascii_digit() {
-        return None;
-    }
-    let value = 100 * u32::from(hundreds - b'0')
-        + 10 * u32::from(tens - b'0')
-        + u32::from(ones - b'0');
-    if value > 255 {
-        return None;
-    }
-    Some(value as u8)
 }
