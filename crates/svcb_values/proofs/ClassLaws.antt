@@ -1,15 +1,24 @@
 -- What the classes of bytes of a string hold.
-use Rattle.std.proofs.Common.{◌≡◌, ◌≢◌, ℕ, ◌<◌, ◌≤◌, Bool, true, false, refl, subst, arith}
+use Rattle.std.proofs.Common.{◌≡◌, ◌≢◌, ℕ, ◌<◌, ◌≤◌, Bool, true, false, List, refl, ap, ◌∙◌, subst, arith}
 use Rattle.std.proofs.lemmas.Bool.Decides.{nat_tests}
 use Rattle.svcb_values.specs.declared.token.Style.{Style}
 use Rattle.svcb_values.specs.declared.token.Style.TheVariants.{Contiguous, InQuotes}
 use Rattle.svcb_values.specs.StringGrammar.{is_raw, is_escapable}
-use Rattle.svcb_values.specs.StringReading.{is_end}
+use Rattle.svcb_values.specs.StringReading.{raw_class, is_end}
+use Rattle.alt_base.specs.Classes.{in_ranges}
 use Rattle.alt_base.proofs.Booleans.{contradicts}
 
 -- a byte that isn't in a class isn't one that is
 pub other_byte : (class : ℕ → Bool) (b n : ℕ) → class b ≡ true → class n ≡ false → b ≢ n
 other_byte class b n has hasnt e = contradicts (class n) (subst (λ m. class m ≡ true) e has) hasnt
+
+-- what a style's table says of a byte
+raw_by : (style : Style) (b : ℕ) → in_ranges (raw_class style) b ≡ is_raw style b
+raw_by Contiguous b = refl
+raw_by InQuotes b = refl
+
+pub raw_by_class : (table : List (ℕ × ℕ)) (style : Style) (b : ℕ) → table ≡ raw_class style → in_ranges table b ≡ is_raw style b
+raw_by_class table style b is = ap (λ (ranges : List (ℕ × ℕ)). in_ranges ranges b) is ∙ raw_by style b
 
 pub raw_no_backslash : (style : Style) (b : ℕ) → is_raw style b ≡ true → b ≢ 92
 raw_no_backslash Contiguous b h = other_byte (is_raw Contiguous) b 92 h refl

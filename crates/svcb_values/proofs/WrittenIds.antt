@@ -2,6 +2,7 @@
 use Rattle.std.proofs.Common.{◌≡◌, ◌≢◌, ◌⊎◌, ℕ, ◌≤◌, Bool, true, false, cond, nat_eq, List, [], ◌∷◌, ◌++◌, length, map, refl, ap, sym, ◌∙◌, arith, inl, inr}
 use Rattle.std.specs.List.{join_with_byte}
 use Rattle.dns_names.specs.Names.{AreBytes}
+use Rattle.dns_names.proofs.Bytes.{bytes_both}
 use Rattle.alt_base.proofs.Numbers.{true_eq, false_eq}
 use Rattle.svcb_wire.specs.Forms.{IsId, AreIds}
 use Rattle.svcb_values.specs.ValueReading.{is_escaped}
@@ -97,13 +98,9 @@ id_bytes (b ∷ bs) h = go (is_escaped b) (id_bytes bs h.1)
     go true rest = (omega arith, (h.0, rest))
     go false rest = (h.0, rest)
 
-join_bytes : (x y : List ℕ) → AreBytes x → AreBytes y → AreBytes (x ++ y)
-join_bytes [] y h k = k
-join_bytes (b ∷ bs) y h k = (h.0, join_bytes bs y h.1 k)
-
 pub ids_bytes : (ids : List (List ℕ)) → AreIds ids → AreBytes (join_with_byte 44 (map id_written ids))
 ids_bytes [] h = tt
 ids_bytes (id ∷ []) h = id_bytes id h.0.bytes
 ids_bytes (id ∷ next ∷ ids) h =
     let rest : AreBytes (44 ∷ join_with_byte 44 (map id_written (next ∷ ids))) = (omega arith, ids_bytes (next ∷ ids) h.1) in
-    join_bytes (id_written id) (44 ∷ join_with_byte 44 (map id_written (next ∷ ids))) (id_bytes id h.0.bytes) rest
+    bytes_both (id_written id) (44 ∷ join_with_byte 44 (map id_written (next ∷ ids))) (id_bytes id h.0.bytes) rest

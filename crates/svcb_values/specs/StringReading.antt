@@ -1,6 +1,7 @@
 -- Reading a value's string, token by token.
 use Rattle.std.specs.Prelude.{ℕ, zero, suc, ◌+◌, Bool, true, false, ◌&&◌, nat_eq, if◌then◌else◌, List, [], ◌∷◌, ◌++◌, length, drop, Result, Ok, Err}
 use Rattle.std.specs.Char.{is_ascii_digit}
+use Rattle.alt_base.specs.Classes.{contiguous_value_class, quoted_value_class}
 use Rattle.field_text.specs.BlanksGrammar.{is_blank}
 use Rattle.dns_names.specs.TextParts.{decimal_value}
 use Rattle.dns_names.specs.TextReading.{is_decimal}
@@ -10,6 +11,11 @@ use Rattle.svcb_values.specs.declared.token.Token.{Token}
 use Rattle.svcb_values.specs.declared.token.Token.TheVariants as token
 use Rattle.svcb_values.specs.declared.unescaped.Unescaped.{Unescaped}
 use Rattle.svcb_values.specs.StringGrammar.{is_raw, is_escapable}
+
+-- the class of the bytes that stand for themselves
+abbrev pub raw_class : Style → List (ℕ × ℕ)
+raw_class Contiguous = contiguous_value_class
+raw_class InQuotes = quoted_value_class
 
 -- behind a backslash and a digit
 abbrev pub decimal_at : ℕ → List ℕ → Token

@@ -3,25 +3,15 @@ ghost use Rattle.dns_names.specs.TextParts.{part_text};
 ghost use Rattle.svcb_values.specs.Written.{written_part, in_quotes};
 
 use alt_base::NoMemory;
+use dns_names::write_part;
 use std::alloc::Global;
 
 // Appends what is written for a byte between quotes.
 fn write_byte(text: &mut Vec<u8>, byte: u8) -> Result<(), NoMemory>
     ensures { OnOk result (text.new.items ≡ text.old.items ++ part_text (written_part byte)) }
 {
-    if byte == b'"' || byte == b'\\' {
-        text.extend_from_slice(&[b'\\', byte])?;
-    } else if b' ' <= byte && byte <= b'~' {
-        text.push(byte)?;
-    } else {
-        text.extend_from_slice(&[
-            b'\\',
-            b'0' + byte / 100,
-            b'0' + byte / 10 % 10,
-            b'0' + byte % 10,
-        ])?;
-    }
-    Ok(())
+    let is_special = byte == b'"' || byte == b'\\';
+    write_part(text, byte, is_special, b' ' <= byte && byte <= b'~')
 }
 
 /// Bytes between quotes (RFC 9460 appendix A): a quote and a backslash behind a backslash, other shown bytes and the space

@@ -1,12 +1,12 @@
 ghost use Rattle.std.specs.Prelude.{◌≡◌, ◌≤◌, ◌+◌, length, drop};
 ghost use Rattle.svcb_values.specs.StringAnswers.{AnswersString, IsWithin};
 ghost use Rattle.svcb_values.specs.StringGrammar.{BeginsStyle, opening};
-ghost use Rattle.svcb_values.specs.StringReading.{with_end, string_ends, read_string};
+ghost use Rattle.svcb_values.specs.StringReading.{raw_class, with_end, string_ends, read_string};
 
 use crate::Unescaped;
 use crate::string_fault::StringFault;
 use crate::token::{Style, Token, is_blank, token_at};
-use alt_base::Bytes;
+use alt_base::{Bytes, ClassTable, contiguous_value_table, quoted_value_table};
 use std::alloc::Global;
 
 /// The string at the front of a text, and how many bytes it takes (RFC 9460 appendix A): it ends before a blank or at the
@@ -16,19 +16,21 @@ pub fn read_string(alloc: Global, text: &[u8]) -> Result<(Unescaped, usize), Str
     ensures within { IsWithin result (length text.now) }
 {
     match text {
-        [b'"', ..] => read_styled(alloc, text, Style::InQuotes, 1),
-        _ => read_styled(alloc, text, Style::Contiguous, 0),
+        [b'"', ..] => read_styled(alloc, text, Style::InQuotes, &quoted_value_table(), 1),
+        _ => read_styled(alloc, text, Style::Contiguous, &contiguous_value_table(), 0),
     }
 }
 
-// The string at the front of a text, whose parts begin at a place.
-fn read_styled(
+// The string at the front of a text, whose parts begin at a place, by the table of the bytes that stand for themselves.
+fn read_styled<const N: usize>(
     alloc: Global,
     text: &[u8],
     style: Style,
+    raw: &ClassTable<N>,
     start: usize,
 ) -> Result<(Unescaped, usize), StringFault>
     requires begins { BeginsStyle style text.now }
+    requires raw { raw.now ≡ raw_class style }
     requires opening { start ≡ length (opening style) }
     ensures reading { AnswersString result (read_string text.now) }
     ensures within { IsWithin result (length text.now) }
@@ -37,7 +39,7 @@ fn read_styled(
     let mut plain = true;
     let mut place = start;
     loop {
-        match token_at(style, &text[place..]) {
+        match token_at(style, raw, &text[place..]) {
             Token::End => return string_ends(style, Unescaped { bytes, plain }, text, place),
             Token::Wrong => return Err(StringFault::At { place }),
             Token::Raw { byte } => {

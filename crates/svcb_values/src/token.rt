@@ -1,12 +1,11 @@
-ghost use Rattle.std.specs.Prelude.{◌≡◌, true, if◌then◌else◌};
+ghost use Rattle.std.specs.Prelude.{◌≡◌, true};
 ghost use Rattle.std.specs.Char.{is_ascii_digit};
 ghost use Rattle.field_text.specs.BlanksGrammar.{is_blank};
-ghost use Rattle.dns_names.specs.TextParts.{decimal_value};
-ghost use Rattle.svcb_values.specs.StringGrammar.{is_raw, is_escapable};
-ghost use Rattle.dns_names.specs.TextReading.{is_decimal};
-ghost use Rattle.svcb_values.specs.StringReading.{token_at, token_at_end, escape_at, decimal_at, is_end};
+ghost use Rattle.svcb_values.specs.StringGrammar.{is_escapable};
+ghost use Rattle.svcb_values.specs.StringReading.{raw_class, token_at, token_at_end, escape_at, decimal_at, is_end};
 
-use alt_base::{contiguous_value_table, quoted_value_table};
+use alt_base::ClassTable;
+use dns_names::decimal_byte;
 
 /// How a value's string stands (RFC 9460 appendix A).
 #[derive(Clone, Copy)]
@@ -30,16 +29,6 @@ pub(crate) fn is_blank(byte: u8) -> bool
     ensures { result ≡ is_blank byte }
 {
     byte == b' ' || byte == b'\t'
-}
-
-// Whether a byte stands for itself.
-fn is_raw(style: Style, byte: u8) -> bool
-    ensures { result ≡ is_raw style byte }
-{
-    match style {
-        Style::Contiguous => contiguous_value_table().has(byte),
-        Style::InQuotes => quoted_value_table().has(byte),
-    }
 }
 
 // Whether a byte may stand behind a backslash.
@@ -72,8 +61,10 @@ fn token_at_end(style: Style) -> Token
     }
 }
 
-/// What a string goes on with.
-pub(crate) fn token_at(style: Style, text: &[u8]) -> Token
+/// What a string goes on with, by the table of the bytes that stand for themselves in it.
+#[tactic(auto, using(crate::proofs::ClassLaws::raw_by_class))]
+pub(crate) fn token_at<const N: usize>(style: Style, raw: &ClassTable<N>, text: &[u8]) -> Token
+    requires { raw.now ≡ raw_class style }
     ensures { result ≡ token_at style text.now }
 {
     let [first, rest @ ..] = text else {
@@ -83,7 +74,7 @@ pub(crate) fn token_at(style: Style, text: &[u8]) -> Token
         Token::End
     } else if *first == b'\\' {
         escape_at(style, rest)
-    } else if is_raw(style, *first) {
+    } else if raw.has(*first) {
         Token::Raw { byte: *first }
     } else {
         Token::Wrong
@@ -121,21 +112,4 @@ fn decimal_at(hundreds: u8, text: &[u8]) -> Token
         },
         _ => Token::Wrong,
     }
-}
-
-// The byte that three digits write, the first of which is one.
-fn decimal_byte(hundreds: u8, tens: u8, ones: u8) -> Option<u8>
-    requires { is_ascii_digit hundreds ≡ true }
-    ensures { result ≡ (if is_decimal hundreds tens ones then Some (decimal_value hundreds tens ones) else None) }
-{
-    if !tens.is_ascii_digit() || !ones.is_ascii_digit() {
-        return None;
-    }
-    let value = 100 * u32::from(hundreds - b'0')
-        + 10 * u32::from(tens - b'0')
-        + u32::from(ones - b'0');
-    if value > 255 {
-        return None;
-    }
-    Some(value as u8)
 }
