@@ -1,10 +1,9 @@
 -- What a reader holds of an unfinished frame, and how a piece goes on with it.
 use Rattle.std.proofs.Common.{◌≡◌, ◌⊎◌, ℕ, ◌+◌, ◌-◌, ◌<◌, ◌≤◌, min, Bool, true, false, cond, nat_lt, List, [], ◌++◌, length, take, drop, refl, ap, sym, ◌∙◌, subst, arith, inl, inr}
-use Rattle.std.proofs.lemmas.List.{append_assoc, append-nil, length-append, length-take-le, length-drop, take-append-drop, take-take, drop-take, take_all}
+use Rattle.std.proofs.lemmas.List.{append_assoc, append-nil, length-append, length-take-le, length-drop, take-append-le, take-append-drop, take-take, drop-take, take_all}
 use Rattle.std.proofs.lemmas.Bool.Decides.{nat_tests}
 use Rattle.h2_framing.specs.declared.head.Head.{Head}
 use Rattle.h2_framing.specs.declared.frame.Frame.{Frame}
-use Rattle.h2_framing.specs.declared.frame.Frame.TheVariants.{Kept, Passed}
 use Rattle.h2_framing.specs.Frames.{head_of, is_kept, frame_of, IsFrame, LacksPayload, IsUnfinished}
 use Rattle.h2_framing.specs.Reading.{held_part, held_count, Keeps}
 use Rattle.h2_framing.proofs.Splitting.{head_front, head_take}
@@ -55,28 +54,40 @@ passed_head held rest skipped head keeps is nine passed =
     let k : is_kept (head_of rest).kind ≡ false = ap (λ (h : Head). is_kept h.kind) (sym e) ∙ passed in
     (e, omega (arith, keeps.counted, ap length (held_passed rest nine k), length-take-le 9 rest nine))
 
--- the frame of a head and a payload, by its kind
-frame_by : (head : Head) (payload : List ℕ) (kept : Bool) → is_kept head.kind ≡ kept → frame_of head payload ≡ cond kept (Kept head payload) (Passed head)
-frame_by head payload kept k = rw k refl
-
 front_length : (rest piece : List ℕ) (n : ℕ) → n ≤ length piece → length (rest ++ take n piece) ≡ length rest + n
 front_length rest piece n within = length-append rest (take n piece) ∙ ap (λ (k : ℕ). length rest + k) (length-take-le n piece within)
 
-pub kept_ends : (held rest piece : List ℕ) (skipped n : ℕ) (head : Head) → Keeps held skipped rest → head ≡ head_of held → 9 ≤ length rest → is_kept head.kind ≡ true → head.length ≤ 16384 → length rest ≤ 9 + head.length
-    → n ≤ length piece → n ≡ 9 + head.length - length held → IsFrame (rest ++ take n piece) (Kept head (drop 9 (held ++ take n piece)))
-kept_ends held rest piece skipped n head keeps is nine kept within upto few count =
-    let all = kept_all held rest skipped head keeps is nine kept in
-    let size : length (rest ++ take n piece) ≡ 9 + head.length = omega (arith, front_length rest piece n few, ap length all.0, count, upto) in
-    let frame : IsFrame (rest ++ take n piece) (frame_of head (drop 9 (rest ++ take n piece))) = is_whole (rest ++ take n piece) head (omega (arith, size)) (all.1 ∙ sym (head_front rest (take n piece) nine)) size within in
-    subst (λ (f : Frame). IsFrame (rest ++ take n piece) f) (frame_by head (drop 9 (rest ++ take n piece)) true kept ∙ ap (λ (xs : List ℕ). Kept head (drop 9 (xs ++ take n piece))) (sym all.0)) frame
+-- more octets behind a head
+more_by : (held now rest octets : List ℕ) (skipped after : ℕ) (head : Head) (kept : Bool) → is_kept head.kind ≡ kept → Keeps held skipped rest → head ≡ head_of held → 9 ≤ length rest
+    → now ≡ cond kept (held ++ octets) held → after ≡ cond kept skipped (skipped + length octets) → Keeps now after (rest ++ octets)
+more_by held now rest octets skipped after head true k keeps is nine held_is counted =
+    let all = kept_all held rest skipped head keeps is nine k in
+    let still : is_kept (head_of (rest ++ octets)).kind ≡ true = ap (λ (h : Head). is_kept h.kind) (head_front rest octets nine ∙ sym all.1) ∙ k in
+    let part : held_part (rest ++ octets) ≡ rest ++ octets = held_kept (rest ++ octets) (omega (arith, length-append rest octets, nine)) still in
+    record { part = held_is ∙ ap (λ (xs : List ℕ). xs ++ octets) all.0 ∙ sym part; counted = omega (arith, ap length part, counted, all.2) }
+more_by held now rest octets skipped after head false k keeps is nine held_is counted =
+    let known = passed_head held rest skipped head keeps is nine k in
+    let was : is_kept (head_of rest).kind ≡ false = ap (λ (h : Head). is_kept h.kind) (sym known.0) ∙ k in
+    let still : is_kept (head_of (rest ++ octets)).kind ≡ false = ap (λ (h : Head). is_kept h.kind) (head_front rest octets nine) ∙ was in
+    let part : held_part (rest ++ octets) ≡ held_part rest = held_passed (rest ++ octets) (omega (arith, length-append rest octets, nine)) still ∙ take-append-le 9 rest octets nine ∙ sym (held_passed rest nine was) in
+    record { part = held_is ∙ keeps.part ∙ sym part; counted = omega (arith, ap length part, counted, keeps.counted, length-append rest octets) }
 
-pub passed_ends : (held rest piece : List ℕ) (skipped n : ℕ) (head : Head) → Keeps held skipped rest → head ≡ head_of held → 9 ≤ length rest → is_kept head.kind ≡ false → head.length ≤ 16384 → length rest ≤ 9 + head.length
-    → n ≤ length piece → n ≡ head.length - skipped → IsFrame (rest ++ take n piece) (Passed head)
-passed_ends held rest piece skipped n head keeps is nine passed within upto few count =
-    let known = passed_head held rest skipped head keeps is nine passed in
-    let size : length (rest ++ take n piece) ≡ 9 + head.length = omega (arith, front_length rest piece n few, known.1, count, upto) in
-    subst (λ (f : Frame). IsFrame (rest ++ take n piece) f) (frame_by head (drop 9 (rest ++ take n piece)) false passed)
-    (is_whole (rest ++ take n piece) head (omega (arith, size)) (known.0 ∙ sym (head_front rest (take n piece) nine)) size within)
+-- the frame of a head and a payload, by what is held
+frame_by : (now x : List ℕ) (skipped : ℕ) (head : Head) (kept : Bool) → is_kept head.kind ≡ kept → Keeps now skipped x → head ≡ head_of x → 9 ≤ length x → frame_of head (drop 9 now) ≡ frame_of head (drop 9 x)
+frame_by now x skipped head true k keeps is nine =
+    ap (λ (xs : List ℕ). frame_of head (drop 9 xs)) (keeps.part ∙ held_kept x nine (ap (λ (h : Head). is_kept h.kind) (sym is) ∙ k))
+frame_by now x skipped head false k keeps is nine = rw k refl
+
+pub more_ends : (held now rest piece : List ℕ) (skipped after n : ℕ) (head : Head) → Keeps held skipped rest → head ≡ head_of held → 9 ≤ length rest → head.length ≤ 16384 → length rest ≤ 9 + head.length
+    → n ≤ length piece → n ≡ 9 + head.length - (length held + skipped) → now ≡ cond (is_kept head.kind) (held ++ take n piece) held → after ≡ cond (is_kept head.kind) skipped (skipped + length (take n piece))
+    → IsFrame (rest ++ take n piece) (frame_of head (drop 9 now))
+more_ends held now rest piece skipped after n head keeps is nine within upto few count held_is counted =
+    let read : head ≡ head_of rest = is ∙ ap head_of keeps.part ∙ head_held rest nine in
+    let read_on : head ≡ head_of (rest ++ take n piece) = read ∙ sym (head_front rest (take n piece) nine) in
+    let size : length (rest ++ take n piece) ≡ 9 + head.length = omega (arith, length-append rest (take n piece), length-take-le n piece few, ap length keeps.part, keeps.counted, count, upto) in
+    let long : 9 ≤ length (rest ++ take n piece) = omega (arith, size) in
+    let keeps_on = more_by held now rest (take n piece) skipped after head (is_kept head.kind) refl keeps is nine held_is counted in
+    subst (λ (f : Frame). IsFrame (rest ++ take n piece) f) (sym (frame_by now (rest ++ take n piece) after head (is_kept head.kind) refl keeps_on read_on long)) (is_whole (rest ++ take n piece) head long read_on size within)
 
 -- what nine octets hold is all of them
 nine_held : (y : List ℕ) (kept : Bool) → length y ≡ 9 → is_kept (head_of y).kind ≡ kept → held_part y ≡ y

@@ -1,5 +1,5 @@
 -- What each step of a reader does to the octets that it keeps.
-use Rattle.std.specs.Prelude.{◌≡◌, ◌≤◌, ◌<◌, ◌+◌, ◌-◌, ℕ, min, List, [], ◌∷◌, ◌++◌, length, take, drop, Option, Some, None}
+use Rattle.std.specs.Prelude.{◌≡◌, ◌≤◌, ◌<◌, ◌+◌, ◌-◌, ℕ, min, if◌then◌else◌, List, [], ◌∷◌, ◌++◌, length, take, drop, Option, Some, None}
 use Rattle.h2_framing.specs.declared.head.Head.{Head}
 use Rattle.h2_framing.specs.declared.frame.Frame.{Frame}
 use Rattle.h2_framing.specs.declared.reader.FrameReader.{FrameReader}
@@ -9,7 +9,7 @@ use Rattle.h2_framing.specs.declared.continued.Continued.{Continued}
 use Rattle.h2_framing.specs.declared.continued.Continued.TheVariants.{Unfinished, Whole, TooLarge as ContinuedTooLarge}
 use Rattle.h2_framing.specs.declared.whole_frames.FramesEnd.{FramesEnd}
 use Rattle.h2_framing.specs.declared.whole_frames.FramesEnd.TheVariants.{Rest, TooLarge as EndTooLarge}
-use Rattle.h2_framing.specs.Frames.{IsFrame, AreFrames, IsUnfinished, IsTooLarge}
+use Rattle.h2_framing.specs.Frames.{is_kept, IsFrame, AreFrames, IsUnfinished, IsTooLarge}
 use Rattle.h2_framing.specs.Reading.{Keeps}
 
 -- the whole frames at the front of some octets were appended
@@ -22,6 +22,11 @@ pub record FillsHead (count : ℕ) (old new : FrameReader) (piece : List ℕ) : 
   pub count_is : count ≡ min (9 - length old.buffer.items) (length piece)
   pub held : new.buffer.items ≡ old.buffer.items ++ take count piece
   pub skipped : new.skipped ≡ old.skipped
+
+-- more octets of a payload of this kind were held, or only counted
+pub record TakesMore (kind : ℕ) (old new : FrameReader) (octets : List ℕ) : Type 0 where
+  pub held : new.buffer.items ≡ (if is_kept kind then old.buffer.items ++ octets else old.buffer.items)
+  pub skipped : new.skipped ≡ (if is_kept kind then old.skipped else old.skipped + length octets)
 
 -- what a piece gives that begins with a frame's head
 abbrev pub FedFromHead : Fed → List Frame → List ℕ → Type 0

@@ -1,15 +1,15 @@
-ghost use Rattle.std.specs.Prelude.{◌≡◌, ◌≤◌, ◌<◌, ◌+◌, ◌++◌, [], ℕ, List, length, take, IfOk, OnOk, Option, true, false};
-ghost use Rattle.h2_framing.specs.Frames.{head_of, is_kept, IsUnfinished};
+ghost use Rattle.std.specs.Prelude.{◌≡◌, ◌≤◌, ◌<◌, ◌+◌, ◌-◌, ◌^◌, [], ℕ, List, length, IfOk, OnOk};
+ghost use Rattle.h2_framing.specs.Frames.{head_of, IsUnfinished};
 ghost use Rattle.h2_framing.specs.Streams.{rest_of};
 ghost use Rattle.h2_framing.specs.Reading.{StandsFor, AnswersPiece, Keeps, held_count, buffer_of};
-ghost use Rattle.h2_framing.specs.Steps.{FillsHead, ContinuesPayload, ContinuesFrame, FedFromHead};
+ghost use Rattle.h2_framing.specs.Steps.{FillsHead, TakesMore, ContinuesPayload, ContinuesFrame, FedFromHead};
 
 use crate::continued::Continued;
-use crate::frame::is_kept_kind;
+use crate::frame::{is_kept_kind, make_frame};
 use crate::head::{HEAD_OCTETS, LENGTH_LIMIT, read_head};
 use crate::whole_frames::{FramesEnd, append_whole_frames};
-use crate::{Fed, Frame, Frames, Head};
-use alt_base::{Bytes, NoMemory};
+use crate::{Fed, Frames, Head};
+use alt_base::NoMemory;
 use std::alloc::Global;
 
 /// Reads the frames of a stream that comes in any pieces. Of an unfinished frame it holds the octets in a buffer, and
@@ -41,7 +41,8 @@ impl FrameReader {
     }
 
     /// How many octets are in the buffer: all of an unfinished frame's, or its head's nine where its payload won't be
-    /// kept. At most 16,392. It takes no memory.
+    /// kept. At most 16,392: so many has the largest frame without its last octet, of which 9 are held where it will be
+    /// passed, and 16,383 only counted. It takes no memory.
     pub fn held(&self) -> u32
         ensures buffer { (x : List ℕ) → StandsFor self.now x → result ≡ length (buffer_of self.now) }
         ensures count { (x : List ℕ) → StandsFor self.now x → result ≡ held_count (rest_of x) }
@@ -137,62 +138,41 @@ impl FrameReader {
         requires within { head.length ≤ 16384 }
         ensures { IfOk result (λ end. ContinuesPayload end head self.old self.new frames.old frames.new piece.now) }
     {
-        if is_kept_kind(head.kind) {
-            self.continue_kept(head, frames, piece)
+        let need = self.lacking(head);
+        if piece.len() < need {
+            self.take_more(head.kind, piece)?;
+            return Ok(None);
+        }
+        self.take_more(head.kind, &piece[..need])?;
+        let frame = make_frame(self.alloc, head, &self.buffer.as_slice()[9..])?;
+        frames.push(frame)?;
+        self.buffer.clear();
+        Ok(Some(need))
+    }
+
+    // How many octets an unfinished frame of this head lacks.
+    fn lacking(&self, head: Head) -> usize
+        requires { head.length ≤ 16384 }
+        ensures lacks { result ≡ 9 + head.length - (length self.now.buffer.items + self.now.skipped) }
+        ensures counted { self.now.skipped < 2 ^ 32 }
+    {
+        (HEAD_OCTETS + head.length as usize)
+            .saturating_sub(self.buffer.len())
+            .saturating_sub(self.skipped as usize)
+    }
+
+    // Holds more octets of a payload that is kept, and only counts those of another one.
+    fn take_more(&mut self, kind: u8, octets: &[u8]) -> Result<(), NoMemory>
+        requires { self.old.skipped + length octets.now < 2 ^ 32 }
+        ensures takes { OnOk result (TakesMore kind self.old self.new octets.now) }
+        ensures longer { OnOk result (length self.old.buffer.items ≤ length self.new.buffer.items) }
+    {
+        if is_kept_kind(kind) {
+            self.buffer.extend_from_slice(octets)?;
         } else {
-            self.continue_passed(head, frames, piece)
+            self.skipped += octets.len() as u32;
         }
-    }
-
-    // Goes on with a payload that is kept.
-    fn continue_kept(
-        &mut self,
-        head: Head,
-        frames: &mut Frames,
-        piece: &[u8],
-    ) -> Result<Option<usize>, NoMemory>
-        requires whole { 9 ≤ length self.old.buffer.items }
-        requires head { head ≡ head_of self.old.buffer.items }
-        requires within { head.length ≤ 16384 }
-        requires kept { is_kept head.kind ≡ true }
-        ensures { IfOk result (λ end. ContinuesPayload end head self.old self.new frames.old frames.new piece.now) }
-    {
-        let need = (HEAD_OCTETS + head.length as usize).saturating_sub(self.buffer.len());
-        if piece.len() < need {
-            self.buffer.extend_from_slice(piece)?;
-            return Ok(None);
-        }
-        self.buffer.extend_from_slice(&piece[..need])?;
-        let payload = Vec::from_slice(self.alloc, &self.buffer.as_slice()[9..])?;
-        frames.push(Frame::Kept {
-            head,
-            payload: Bytes::from_vec(payload),
-        })?;
-        self.buffer.clear();
-        Ok(Some(need))
-    }
-
-    // Goes on with a payload that is only counted.
-    fn continue_passed(
-        &mut self,
-        head: Head,
-        frames: &mut Frames,
-        piece: &[u8],
-    ) -> Result<Option<usize>, NoMemory>
-        requires whole { 9 ≤ length self.old.buffer.items }
-        requires head { head ≡ head_of self.old.buffer.items }
-        requires within { head.length ≤ 16384 }
-        requires passed { is_kept head.kind ≡ false }
-        ensures { IfOk result (λ end. ContinuesPayload end head self.old self.new frames.old frames.new piece.now) }
-    {
-        let need = head.length.saturating_sub(self.skipped) as usize;
-        if piece.len() < need {
-            self.skipped += piece.len() as u32;
-            return Ok(None);
-        }
-        frames.push(Frame::Passed { head })?;
-        self.buffer.clear();
-        Ok(Some(need))
+        Ok(())
     }
 
     // Holds the front of an unfinished frame.
