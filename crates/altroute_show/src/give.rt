@@ -1,6 +1,7 @@
 ghost use Rattle.std.specs.Prelude.{◌≡◌, IfOk};
 ghost use Rattle.altroute_show.specs.Given.{without_newline, refused_at, given_text};
 ghost use Rattle.altroute_show.specs.WholeInput.{GiveEnds};
+ghost use Rattle.altroute_show.specs.declared.given.Given.TheVariants.{Refused};
 
 use crate::Status;
 use crate::given::Given;
@@ -29,6 +30,13 @@ pub(crate) fn write_refused_at(alloc: Global, number: u32, place: u32) -> Result
     put_number(alloc, &mut text, place)?;
     put(&mut text, b"\n")?;
     Ok(ListOf::from_vec(text))
+}
+
+/// What is given where a decoder refuses the input.
+pub(crate) fn refused_given(alloc: Global, number: u32, place: u32) -> Result<Given, NoMemory>
+    ensures { IfOk result (λ given. given ≡ Refused (refused_at number place)) }
+{
+    Ok(Given::Refused(write_refused_at(alloc, number, place)?))
 }
 
 /// Writes what is given.

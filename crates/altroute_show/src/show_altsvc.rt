@@ -1,7 +1,7 @@
 ghost use Rattle.std.specs.Prelude.{◌≡◌, IfOk};
 ghost use Rattle.altroute_show.specs.Given.{altsvc_given};
 
-use crate::give::{trimmed, write_refused_at};
+use crate::give::{refused_given, trimmed};
 use crate::given::Given;
 use alt_base::{NoMemory, Refused};
 use altsvc_grammar::{parse, show_text};
@@ -14,10 +14,8 @@ pub(crate) fn altsvc_given(alloc: Global, input: &[u8]) -> Result<Given, NoMemor
     match parse(alloc, trimmed(input)) {
         Ok(value) => Ok(Given::Shown(show_text(alloc, &value)?)),
         Err(Refused::NoMemory) => Err(NoMemory),
-        Err(Refused::At { place, reason }) => Ok(Given::Refused(write_refused_at(
-            alloc,
-            u32::from(reason.number()),
-            place,
-        )?)),
+        Err(Refused::At { place, reason }) => {
+            refused_given(alloc, u32::from(reason.number()), place)
+        }
     }
 }

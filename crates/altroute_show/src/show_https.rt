@@ -2,7 +2,7 @@ ghost use Rattle.std.specs.Prelude.{◌≡◌, IfOk};
 ghost use Rattle.altroute_show.specs.Given.{hex_given, wire_refusal_number, record_given};
 ghost use Rattle.svcb_wire.specs.RecordReading.{read_record};
 
-use crate::give::{trimmed, write_refused_at};
+use crate::give::{refused_given, trimmed};
 use crate::given::Given;
 use crate::record_form::{RecordForm, write_line};
 use alt_base::{ListOf, NoMemory, Refused};
@@ -30,11 +30,7 @@ fn record_given(alloc: Global, form: RecordForm, octets: &[u8]) -> Result<Given,
     match parse(alloc, octets) {
         Ok(value) => Ok(Given::Shown(write_line(alloc, &value, form)?)),
         Err(Refused::NoMemory) => Err(NoMemory),
-        Err(Refused::At { place, reason }) => Ok(Given::Refused(write_refused_at(
-            alloc,
-            refusal_number(reason),
-            place,
-        )?)),
+        Err(Refused::At { place, reason }) => refused_given(alloc, refusal_number(reason), place),
     }
 }
 

@@ -3,7 +3,7 @@ ghost use Rattle.hex.specs.Hex.{encode_lower};
 ghost use Rattle.altroute_show.specs.Given.{octets_line, text_given};
 ghost use Rattle.svcb_wire.specs.Records.{IsRecord, record_octets};
 
-use crate::give::{trimmed, write_refused_at};
+use crate::give::{refused_given, trimmed};
 use crate::given::Given;
 use alt_base::{Bytes, ListOf, NoMemory, Refused};
 use std::alloc::Global;
@@ -29,10 +29,8 @@ pub(crate) fn text_given(alloc: Global, input: &[u8]) -> Result<Given, NoMemory>
     match parse(alloc, trimmed(input)) {
         Ok(value) => Ok(Given::Shown(write_octets(alloc, &value)?)),
         Err(Refused::NoMemory) => Err(NoMemory),
-        Err(Refused::At { place, reason }) => Ok(Given::Refused(write_refused_at(
-            alloc,
-            u32::from(reason.number()),
-            place,
-        )?)),
+        Err(Refused::At { place, reason }) => {
+            refused_given(alloc, u32::from(reason.number()), place)
+        }
     }
 }
