@@ -107,13 +107,8 @@ fn length_before_spaces(text: &[u8]) -> usize
 fn is_value(text: &[u8]) -> bool
     ensures { result ≡ list_all is_value_byte text.now }
 {
-    text.iter().all(|b| is_value_byte(*b))
-}
-
-fn is_value_byte(b: u8) -> bool
-    ensures { result ≡ is_value_byte b }
-{
-    value_table().has(b)
+    let table = value_table();
+    text.iter().all(|b| table.has(*b))
 }
 
 // The bytes of a value (RFC 9110 5.5), without the tab.
