@@ -1,4 +1,6 @@
 pub mod Lists
 pub mod Origins
-mod Lookups
+pub mod Lookups
+pub mod Order
+pub mod Ends
 pub mod Totals

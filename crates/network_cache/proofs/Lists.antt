@@ -1,16 +1,10 @@
 -- What tests and loops make of lists.
-use Rattle.std.proofs.Common.{◌≡◌, ℕ, ◌+◌, ◌-◌, ◌<◌, ◌≤◌, Bool, true, false, cond, nat_lt, List, [], ◌∷◌, ◌++◌, map, filter, take, get_or, length, refl, ap, sym, ◌∙◌, arith}
-use Rattle.std.specs.Vec.{with_items}
-use Rattle.std.specs.declared.vec.Vec.{Vec}
-use Rattle.std.proofs.lemmas.List.{length-map, with_items_is, map-append}
+use Rattle.std.proofs.Common.{◌≡◌, ℕ, ◌+◌, ◌-◌, ◌<◌, ◌≤◌, Bool, true, false, cond, nat_lt, List, [], ◌∷◌, ◌++◌, map, filter, take, get_or, length, refl, ap, ◌∙◌, arith}
+use Rattle.std.proofs.lemmas.List.{map-append}
 use Rattle.std.proofs.lemmas.List.Elements.{filter_more}
 use Rattle.network_cache.specs.declared.kept.Kept.{Kept}
 use Rattle.network_cache.specs.Freshness.{is_fresh}
 use Rattle.alt_base.proofs.Lists.{filter_within}
-
--- what is written over a vector's items, each mapped, are its items
-pub mapped_items : {X Z : Type 0} (v : Vec X Z) (f : X → X) (ws : List X) → ws ≡ map f v.items → (with_items v ws).items ≡ map f v.items
-mapped_items v f ws are = with_items_is v ws (ap length are ∙ length-map v.items f ∙ sym v.ok.0) ∙ are
 
 -- one more item is mapped where it passes a test
 pub passed_more : {X Y : Type 0} (p : X → Bool) (f : X → Y) (xs : List X) (i : ℕ) (d : X) → i < length xs → map f (filter p (take (i + 1) xs)) ≡ map f (filter p (take i xs)) ++ cond (p (get_or xs i d)) (f (get_or xs i d) ∷ []) []

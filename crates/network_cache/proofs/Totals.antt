@@ -1,16 +1,16 @@
 -- The sum over origins is one, whichever are summed over, and over entries it is the entries' sum.
-use Rattle.std.proofs.Common.{◌≡◌, ℕ, ◌+◌, ◌<◌, ◌≤◌, Bool, true, false, cond, ◌||◌, ◌&&◌, not, List, [], ◌∷◌, map, filter, length, take, get_or, zero, suc, add-one, sum_by, refl, ap, sym, ◌∙◌, arith}
+use Rattle.std.proofs.Common.{◌≡◌, ℕ, ◌+◌, ◌≤◌, Bool, true, false, cond, ◌||◌, ◌&&◌, not, List, [], ◌∷◌, map, filter, length, sum_by, refl, ap, sym, ◌∙◌, arith}
 use Rattle.std.specs.Prelude.{min}
+use Rattle.std.specs.Map.{keys_of}
 use Rattle.std.proofs.lemmas.List.{length-map}
 use Rattle.std.proofs.lemmas.List.Sums.{sum_by-cons}
 use Rattle.origin_values.specs.declared.origin.Origin.{Origin}
 use Rattle.origin_values.specs.Equality.{origin_eq}
 use Rattle.network_cache.specs.declared.kept.Kept.{Kept}
-use Rattle.network_cache.specs.declared.entry.Entry.{Entry}
 use Rattle.network_cache.specs.declared.cache.Cache.{Cache}
 use Rattle.network_cache.specs.Freshness.{is_fresh}
 use Rattle.network_cache.specs.Origins.{is_among, are_distinct}
-use Rattle.network_cache.specs.Entries.{origins_of, kept_in, fresh_in}
+use Rattle.network_cache.specs.Entries.{kept_among, fresh_among}
 use Rattle.network_cache.specs.Contents.{kept, live, IsTotal, HoldsFresh}
 use Rattle.network_cache.proofs.Lists.{fresh_later}
 use Rattle.network_cache.proofs.Origins.{along, along_right, other_than}
@@ -132,33 +132,25 @@ total_later old new now t n h fresh total = record {
 
 -- the sum over the entries
 
-pub fresh_more : (now : ℕ) (es : List Entry) (i : ℕ) (d : Entry) → i < length es → fresh_in now (take (i + 1) es) ≡ fresh_in now (take i es) + length (filter (is_fresh now) (get_or es i d).alternatives)
-fresh_more now es i d within = rw add-one (one_more es i within)
-  where
-    one_more : (es : List Entry) (i : ℕ) → i < length es → fresh_in now (take (suc i) es) ≡ fresh_in now (take i es) + length (filter (is_fresh now) (get_or es i d).alternatives)
-    one_more [] i within = absurd (omega arith)
-    one_more (e ∷ es) zero within = omega arith
-    one_more (e ∷ es) (suc i) within = omega (arith, one_more es i (omega arith))
+-- nothing is left to count
+pub all_counted : (total left all top : ℕ) → total ≤ top → left ≡ 0 → min (total + left) top ≡ min all top → total ≡ min all top
+all_counted total left all top fits none sum = omega arith
 
--- a sum that stays at its greatest
-pub capped : (a b t r m : ℕ) → t ≡ min a m → r ≡ min (t + b) m → r ≡ min (a + b) m
-capped a b t r m h k = grind arith
+abbrev fresh_of : ℕ → List (Origin × List Kept) → Origin → ℕ
+fresh_of now es o = length (map (λ (k : Kept). k.alt) (filter (is_fresh now) (kept_among es o)))
 
-abbrev fresh_of : ℕ → List Entry → Origin → ℕ
-fresh_of now es o = length (map (λ (k : Kept). k.alt) (filter (is_fresh now) (kept_in es o)))
-
-pub fresh_sum : (now : ℕ) (es : List Entry) → are_distinct (origins_of es) ≡ true → fresh_in now es ≡ sum_by (λ o. length (map (λ (k : Kept). k.alt) (filter (is_fresh now) (kept_in es o)))) (origins_of es)
+pub fresh_sum : (now : ℕ) (es : List (Origin × List Kept)) → are_distinct (keys_of es) ≡ true → fresh_among now es ≡ sum_by (λ o. length (map (λ (k : Kept). k.alt) (filter (is_fresh now) (kept_among es o)))) (keys_of es)
 fresh_sum now [] h = refl
 fresh_sum now (e ∷ es) h =
-    let rest = fresh_sum now es (second_of_both (not (is_among e.origin (origins_of es))) (are_distinct (origins_of es)) h) in
-    let same = sum_same (fresh_of now es) (fresh_of now (e ∷ es)) (origins_of es) (λ o found. elsewhere o found) in
-    omega (arith, sum_by-cons (fresh_of now (e ∷ es)) e.origin (origins_of es), rest, same, here)
+    let rest = fresh_sum now es (second_of_both (not (is_among e.0 (keys_of es))) (are_distinct (keys_of es)) h) in
+    let same = sum_same (fresh_of now es) (fresh_of now (e ∷ es)) (keys_of es) (λ o found. elsewhere o found) in
+    omega (arith, sum_by-cons (fresh_of now (e ∷ es)) e.0 (keys_of es), rest, same, here)
   where
-    here : fresh_of now (e ∷ es) e.origin ≡ length (filter (is_fresh now) e.alternatives)
-    here = rw (origin_self e.origin) (length-map (filter (is_fresh now) e.alternatives) (λ (k : Kept). k.alt))
+    here : fresh_of now (e ∷ es) e.0 ≡ length (filter (is_fresh now) e.1)
+    here = rw (origin_self e.0) (length-map (filter (is_fresh now) e.1) (λ (k : Kept). k.alt))
 
-    alone : is_among e.origin (origins_of es) ≡ false
-    alone = not-true (is_among e.origin (origins_of es)) (first_of_both (not (is_among e.origin (origins_of es))) (are_distinct (origins_of es)) h)
+    alone : is_among e.0 (keys_of es) ≡ false
+    alone = not-true (is_among e.0 (keys_of es)) (first_of_both (not (is_among e.0 (keys_of es))) (are_distinct (keys_of es)) h)
 
-    elsewhere : (o : Origin) → is_among o (origins_of es) ≡ true → fresh_of now es o ≡ fresh_of now (e ∷ es) o
-    elsewhere o found = ap (λ w. length (map (λ (k : Kept). k.alt) (filter (is_fresh now) (cond w e.alternatives (kept_in es o))))) (sym (other_than e.origin o (origins_of es) alone found))
+    elsewhere : (o : Origin) → is_among o (keys_of es) ≡ true → fresh_of now es o ≡ fresh_of now (e ∷ es) o
+    elsewhere o found = ap (λ w. length (map (λ (k : Kept). k.alt) (filter (is_fresh now) (cond w e.1 (kept_among es o))))) (sym (other_than e.0 o (keys_of es) alone found))

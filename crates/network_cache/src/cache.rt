@@ -1,11 +1,4 @@
-ghost use Rattle.std.specs.Prelude.{◌≡◌, true};
-ghost use Rattle.network_cache.specs.Origins.{are_distinct};
-ghost use Rattle.network_cache.specs.Entries.{origins_of};
-
-use crate::entry::{
-    Entry, count_all_fresh, drop_empty, drop_entry, drop_key_of, keep_all_fresh,
-    keep_all_persistent, place_of, put,
-};
+use crate::entries::Entries;
 use crate::kept::{fresh, taken};
 use alt_base::{ListOf, Moment, NoMemory};
 use altsvc_grammar::{AltKey, Alts};
@@ -18,8 +11,7 @@ use std::alloc::Global;
 pub struct Cache {
     alloc: Global,
     newest: u32,
-    entries: Vec<Entry>,
-    ghost distinct: { are_distinct (origins_of entries.items) ≡ true },
+    entries: Entries,
 }
 
 impl Cache {
@@ -37,7 +29,7 @@ impl Cache {
         Cache {
             alloc,
             newest: 0,
-            entries: Vec::new(alloc),
+            entries: Entries::new(alloc),
         }
     }
 
@@ -50,12 +42,7 @@ impl Cache {
         ensures as_before { OnErr result (IsAsBefore self.old self.new) }
     {
         let alternatives = taken(self.alloc, now, age, alts)?;
-        let place = place_of(self.entries.as_slice(), &origin);
-        let entry = Entry {
-            origin,
-            alternatives,
-        };
-        put(&mut self.entries, place, entry)?;
+        self.entries.set(origin, alternatives)?;
         self.newest = now.0;
         Ok(())
     }
@@ -65,7 +52,7 @@ impl Cache {
         ensures cleared { (o : Origin) → kept self.new o ≡ (if origin_eq o origin.now then [] else kept self.old o) }
         ensures moment { newest_moment self.new ≡ newest_moment self.old }
     {
-        drop_entry(&mut self.entries, origin);
+        self.entries.clear(origin);
     }
 
     /// Drops an origin's alternatives of a key. It takes no memory.
@@ -73,7 +60,7 @@ impl Cache {
         ensures removed { (o : Origin) → kept self.new o ≡ (if origin_eq o origin.now then filter (has_other_key key.now) (kept self.old o) else kept self.old o) }
         ensures moment { newest_moment self.new ≡ newest_moment self.old }
     {
-        drop_key_of(self.alloc, &mut self.entries, origin, key);
+        self.entries.remove(origin, key);
     }
 
     /// The network has changed: only what has `persist` stays (RFC 7838 3.1). It takes no memory.
@@ -81,17 +68,17 @@ impl Cache {
         ensures persistent { (o : Origin) → kept self.new o ≡ filter persists (kept self.old o) }
         ensures moment { newest_moment self.new ≡ newest_moment self.old }
     {
-        keep_all_persistent(self.alloc, &mut self.entries);
+        self.entries.network();
     }
 
-    /// Drops what isn't fresh, and so won't be at any later moment (RFC 7838 3.1), and nothing else. It takes no memory.
+    /// Drops what isn't fresh, and so won't be at any later moment (RFC 7838 3.1), and nothing else. It takes no memory, and
+    /// no time where nothing ends.
     pub fn purge(&mut self, now: Moment)
         requires { newest_moment self.old ≤ now.0 }
         ensures fresh { (o : Origin) → kept self.new o ≡ filter (is_fresh now.0) (kept self.old o) }
         ensures moment { newest_moment self.new ≡ now.0 }
     {
-        keep_all_fresh(self.alloc, &mut self.entries, now);
-        drop_empty(&mut self.entries);
+        self.entries.purge(now);
         self.newest = now.0;
     }
 
@@ -101,8 +88,8 @@ impl Cache {
         requires { newest_moment self.now ≤ now.0 }
         ensures { IfOk result (λ alts. alts ≡ live self.now origin.now now.0) }
     {
-        match place_of(self.entries.as_slice(), origin) {
-            Some(place) => fresh(alloc, self.entries[place].alternatives.as_slice(), now),
+        match self.entries.of(origin) {
+            Some(all) => fresh(alloc, all.as_slice(), now),
             None => Ok(ListOf::new(alloc)),
         }
     }
@@ -113,6 +100,6 @@ impl Cache {
         requires { newest_moment self.now ≤ now.0 }
         ensures { Counts self.now now.0 result }
     {
-        count_all_fresh(self.entries.as_slice(), now)
+        self.entries.count(now)
     }
 }

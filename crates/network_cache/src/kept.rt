@@ -1,6 +1,8 @@
 ghost use Rattle.std.specs.Prelude.{◌≡◌, ◌++◌, ◌∷◌, [], map, filter, length, IfOk, OnOk, if◌then◌else◌};
 ghost use Rattle.network_cache.specs.declared.kept.Kept.{Kept};
+ghost use Rattle.std.specs.List.{list_any};
 ghost use Rattle.network_cache.specs.Freshness.{taken_at, is_fresh, persists, has_other_key};
+ghost use Rattle.network_cache.specs.Ends.{end_of, ends_at, ends_elsewhere};
 
 use alt_base::{Duplicate, ListOf, Moment, NoMemory};
 use altsvc_grammar::{Alt, AltKey, Alts, same_key};
@@ -43,11 +45,29 @@ fn is_fresh(kept: &Kept, now: Moment) -> bool
     u64::from(kept.age) + since < u64::from(kept.alt.ma)
 }
 
-/// Drops those that aren't fresh.
-pub(crate) fn drop_stale(all: &mut Vec<Kept>, now: Moment)
-    ensures { all.new.items ≡ filter (is_fresh now.0) all.old.items }
+/// The moment at which an alternative is fresh no more, 0 where it never is.
+pub(crate) fn end_of(kept: &Kept) -> u64
+    ensures { result ≡ end_of kept.now }
 {
-    all.retain(|kept| is_fresh(kept, now));
+    if kept.age < kept.alt.ma {
+        u64::from(kept.moment) + u64::from(kept.alt.ma - kept.age)
+    } else {
+        0
+    }
+}
+
+/// Whether an alternative ends at a moment.
+pub(crate) fn some_ends_at(all: &[Kept], end: u64) -> bool
+    ensures { result ≡ list_any (ends_at end) all.now }
+{
+    all.iter().any(|kept| end_of(kept) == end)
+}
+
+/// Drops those that end at a moment.
+pub(crate) fn drop_ended(all: &mut Vec<Kept>, end: u64)
+    ensures { all.new.items ≡ filter (ends_elsewhere end) all.old.items }
+{
+    all.retain(|kept| end_of(kept) != end);
 }
 
 /// Drops those that don't stay when the network changes.

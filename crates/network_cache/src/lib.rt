@@ -3,13 +3,17 @@
 //! age and the seconds since then are below its `ma` (RFC 7838 3.1).
 //!
 //! `specs/Contents` says what a cache holds, as a map from origins to lists and one moment. The contracts say nothing
-//! else of it: how an origin is looked up is the cache's own matter.
+//! else of it: that it is an index by origins and a queue by ends is the cache's own matter.
 #![tactic(auto)]
 
 mod cache;
-mod entry;
+mod entries;
+mod index;
 mod kept;
 mod laws;
+mod queue;
+mod sorted_origin;
+mod sweep;
 #[cfg(test)]
 mod tests;
 

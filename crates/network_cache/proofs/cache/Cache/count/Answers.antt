@@ -1,7 +1,6 @@
-use Rattle.std.proofs.Common.{ap, ◌∙◌}
-use Rattle.std.specs.Prelude.{min}
+use Rattle.std.specs.Map.{keys_of}
 use Rattle.network_cache.specs.Contents.{kept}
-use Rattle.network_cache.specs.Entries.{origins_of, fresh_in}
+use Rattle.network_cache.specs.Entries.{fresh_among}
 use Rattle.network_cache.proofs.Lookups.{kept_of_none}
 use Rattle.network_cache.proofs.Totals.{fresh_sum}
 use Rattle.network_cache.proofs.cache.Cache.count.Goals as goal
@@ -9,16 +8,16 @@ use Rattle.network_cache.proofs.cache.Cache.count.Goals as goal
 pub returns : goal.returns
 unfolding kept
 returns c =
-    let es = c.args.self.now.entries.items in
+    let es = c.args.self.now.entries.items.entries in
     let now = c.args.now.0 in (
-      fresh_in now es,
+      fresh_among now es,
       (
         record {
-          origins = origins_of es;
-          distinct = c.args.self.now.distinct;
+          origins = keys_of es;
+          distinct = c.count.ensures.distinct;
           elsewhere = kept_of_none es;
-          sum = fresh_sum now es c.args.self.now.distinct;
+          sum = fresh_sum now es c.count.ensures.distinct;
         },
-        c.count_all_fresh.ensures ∙ ap (λ xs. min (fresh_in now xs) 18446744073709551615) c.as_slice.ensures.value,
+        c.count.ensures.count,
       ),
     )

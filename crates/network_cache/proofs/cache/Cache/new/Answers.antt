@@ -1,11 +1,10 @@
-use Rattle.std.proofs.Common.{refl, ap}
+use Rattle.std.proofs.Common.{refl}
 use Rattle.network_cache.specs.Contents.{kept, newest_moment}
-use Rattle.network_cache.specs.Entries.{kept_in}
 use Rattle.network_cache.proofs.cache.Cache.new.Goals as goal
 
 pub returns-clause-nothing : goal.returns-clause-nothing
 unfolding kept
-returns-clause-nothing c = λ o. ap (λ es. kept_in es o) c.new.ensures.items
+returns-clause-nothing c = c.new.ensures
 
 pub returns-clause-moment : goal.returns-clause-moment
 unfolding newest_moment

@@ -1,0 +1,20 @@
+use Rattle.std.proofs.Common.{◌&&◌, ap, sym, ◌∙◌}
+use Rattle.std.specs.List.{list_any}
+use Rattle.origin_values.specs.Equality.{origin_eq}
+use Rattle.network_cache.specs.Freshness.{has_other_key}
+use Rattle.network_cache.specs.Ends.{ends_at}
+use Rattle.network_cache.specs.Entries.{kept_in}
+use Rattle.network_cache.proofs.Ends.{swept_within}
+use Rattle.network_cache.proofs.entries.Entries.remove.Goals as goal
+
+pub invariant_of-self : goal.invariant_of-self
+invariant_of-self c = record {
+  queued = λ e o.
+      let before = kept_in c.args.self.now.items o in
+      let after = kept_in c.drop_key_of.new.index o in
+      c.sweep.ensures e o
+      ∙ ap (λ w. list_any (ends_at e) after && w) (c.args.self.now.queued e o)
+      ∙ ap (λ ks. list_any (ends_at e) ks && list_any (ends_at e) before) (c.drop_key_of.ensures o)
+      ∙ swept_within (origin_eq o c.args.origin.now) (has_other_key c.args.key.now) e before
+      ∙ ap (list_any (ends_at e)) (sym (c.drop_key_of.ensures o));
+}
