@@ -10,4 +10,9 @@ pub mod Sound
 pub mod OutstandingInWords
 pub mod Quiet
 pub mod Settles
+pub mod Parts
 pub mod Runs
+pub mod Pieces
+pub mod PiecesDone
+pub mod PiecesJoin
+pub mod GoingOn

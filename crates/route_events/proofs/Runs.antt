@@ -2,26 +2,40 @@
 use Rattle.std.proofs.Common.{◌≡◌, ℕ, Bool, true, false, cond, not, nat_eq, List, [], ◌∷◌, ◌++◌, map, Option, Some, None, is_some, Result, Ok, Err, All, refl, sym, ◌∙◌, subst}
 use Rattle.std.specs.Option.{option_map_or}
 use Rattle.alt_base.specs.declared.refusal.At.{At}
+use Rattle.h2_framing.specs.declared.head.Head.{Head}
+use Rattle.altsvc_frame.specs.declared.frame.AltFrame.{AltFrame}
+use Rattle.altsvc_frame.specs.declared.refusal.AltFrameRefusal.{AltFrameRefusal}
+use Rattle.altsvc_frame.specs.FrameReading.{read_frame}
+use Rattle.origin_frame.specs.declared.listed.Listed.{Listed}
+use Rattle.origin_frame.specs.declared.refusal.OriginFrameRefusal.{OriginFrameRefusal}
+use Rattle.origin_frame.specs.PayloadReading.{read_listed}
+use Rattle.origin_values.specs.declared.origin.Origin.{Origin}
 use Rattle.altsvc_grammar.specs.declared.alt_svc.AltSvc.{AltSvc}
 use Rattle.altsvc_grammar.specs.declared.refusal.AltRefusal.{AltRefusal}
 use Rattle.altsvc_grammar.specs.ValueReading.{read_value}
 use Rattle.route_events.specs.declared.fact.Fact.{Fact}
-use Rattle.route_events.specs.declared.fact.Fact.TheVariants.{Closed, Response, Tick}
+use Rattle.route_events.specs.declared.fact.Fact.TheVariants.{Closed, Response, Input, Delivered, Tick}
+use Rattle.route_events.specs.declared.fact.Fact.TheVariants as fact
 use Rattle.route_events.specs.declared.action.Action.{Action}
-use Rattle.route_events.specs.declared.action.Action.TheVariants.{Lost, Retry, Field}
+use Rattle.route_events.specs.declared.action.Action.TheVariants.{Lost, Retry, Alternatives, Field, Ignored, Who}
 use Rattle.route_events.specs.declared.refusal.StepRefusal.{StepRefusal}
 use Rattle.route_events.specs.declared.request.Request.{Request}
-use Rattle.route_events.specs.Journal.{Happened, Cut, Taken, Journal, newest_moment}
+use Rattle.route_events.specs.declared.connection.Connection.{Connection}
+use Rattle.route_events.specs.Journal.{Entry, Happened, Cut, Taken, Journal, newest_moment}
+use Rattle.route_events.specs.Attempts.{has_ended}
 use Rattle.route_events.specs.Requests.{requests, request_of, standing, waits, waiting}
-use Rattle.route_events.specs.Connections.{outstanding}
-use Rattle.route_events.specs.Authority.{is_https}
-use Rattle.route_events.specs.Dispatch.{dispatch}
+use Rattle.route_events.specs.Connections.{is_https, is_tls, open_connection, outstanding}
+use Rattle.route_events.specs.Authority.{is_authoritative}
+use Rattle.route_events.specs.Frames.{octets_on, deliveries}
+use Rattle.route_events.specs.Dispatch.{carriers, dispatch}
+use Rattle.route_events.specs.FrameAdvertisements.{spoken_for, value_action, reading_action, altsvc_action, listing_action, origin_action, frame_action, frame_effects}
 use Rattle.route_events.specs.Advertisements.{is_answered_by_authority, value_taken, value_of_reading, field_effects, answer_effects}
-use Rattle.route_events.specs.Step.{IsRun, Begun, Stepped, refusal, settled, step, run, effects, with_fact}
+use Rattle.route_events.specs.Step.{IsRun, Begun, Stepped, refusal, settled, step, run, effects, cut_effects, with_part, with_fact, follow, parts_of, with_answer}
 use Rattle.route_events.specs.Headline.{MayWait, IsAllowed, EachAction}
 use Rattle.route_events.proofs.Lists.{IsIn, in_filter, filter_in, apart_filter, all_from_in}
-use Rattle.route_events.proofs.Sound.{Sound, sound_begun, sound_fact}
-use Rattle.route_events.proofs.Quiet.{rests_still, quiet_tick}
+use Rattle.route_events.proofs.Sound.{Sound, sound_begun, sound_fact, sound_delivered, sound_cut, sound_told, used_of, input_open}
+use Rattle.route_events.proofs.Quiet.{rests_still, quiet_tick, quiet_told}
+use Rattle.route_events.proofs.Parts.{IsBehind, AreBehind, all_behind, ended_part}
 use Rattle.route_events.proofs.Settles.{Settles, settles, settle_nothing, may_wait, IsEffect, AreEffects, effected}
 
 -- what holds after each step
@@ -92,15 +106,101 @@ are_lost : (qs : List ℕ) → AreEffects (map Lost qs)
 are_lost [] = tt
 are_lost (q ∷ qs) = (tt, are_lost qs)
 
+-- what is done for a frame is one action that no request stands on, or none
+altsvc_effect : (j : Journal) (now : ℕ) (head : Head) (payload : List ℕ) (c : Connection) → IsEffect (altsvc_action j now c head payload)
+altsvc_effect j now head payload c = by_tls (not (is_tls c))
+  where
+    by_authority : (o : Origin) (value : AltSvc) (b : Bool) → IsEffect (cond b (Ignored c.number 10 7 0) (Alternatives o value))
+    by_authority o value true = tt
+    by_authority o value false = tt
+
+    by_scheme : (o : Origin) (value : AltSvc) (b : Bool) → IsEffect (cond b (Ignored c.number 10 9 0) (cond (not (is_authoritative j c o now)) (Ignored c.number 10 7 0) (Alternatives o value)))
+    by_scheme o value true = tt
+    by_scheme o value false = by_authority o value (not (is_authoritative j c o now))
+
+    by_origin : (value : AltSvc) (w : Option Origin) → IsEffect (value_action j now c value w)
+    by_origin value None = tt
+    by_origin value (Some o) = by_scheme o value (not (is_https o.scheme))
+
+    by_reading : (stream : ℕ) (w : Result AltFrame (At AltFrameRefusal)) → IsEffect (reading_action j now c stream w)
+    by_reading stream (Ok frame) = by_origin frame.value (spoken_for j c.number stream frame)
+    by_reading stream (Err at) = tt
+
+    by_tls : (b : Bool) → IsEffect (cond b (Ignored c.number 10 10 0) (reading_action j now c head.stream (read_frame head.stream payload)))
+    by_tls true = tt
+    by_tls false = by_reading head.stream (read_frame head.stream payload)
+
+origin_effect : (c : Connection) (head : Head) (payload : List ℕ) → IsEffect (origin_action c head payload)
+origin_effect c head payload = by_tls (not (is_tls c))
+  where
+    by_reading : (w : Result Listed (At OriginFrameRefusal)) → IsEffect (listing_action c w)
+    by_reading (Ok listed) = tt
+    by_reading (Err at) = tt
+
+    by_tls : (b : Bool) → IsEffect (cond b (Ignored c.number 12 10 0) (listing_action c (read_listed head.stream head.flags payload)))
+    by_tls true = tt
+    by_tls false = by_reading (read_listed head.stream head.flags payload)
+
+frame_effect : (j : Journal) (now conn : ℕ) (head : Head) (payload : List ℕ) → AreEffects (frame_effects j now conn head payload)
+frame_effect j now conn head payload = by_connection (open_connection j conn)
+  where
+    by_kinds : (c : Connection) (b d : Bool) → AreEffects (cond b (altsvc_action j now c head payload ∷ []) (cond d (origin_action c head payload ∷ []) []))
+    by_kinds c true d = (altsvc_effect j now head payload c, tt)
+    by_kinds c false true = (origin_effect c head payload, tt)
+    by_kinds c false false = tt
+
+    by_connection : (w : Option Connection) → AreEffects (option_map_or (frame_action j now head payload) w [])
+    by_connection None = tt
+    by_connection (Some c) = by_kinds c (nat_eq head.kind 10) (nat_eq head.kind 12)
+
 pub are_effects : (j : Journal) (now : ℕ) (fact : Fact) → AreEffects (effects j now fact)
 are_effects j now (Closed conn) = are_lost (outstanding j conn)
 are_effects j now (Response q status age altsvc) = answer_effect j now q status altsvc
+are_effects j now (Delivered conn head payload) = frame_effect j now conn head payload
 are_effects j now _ = tt
 
-step_is : (j : Journal) (now : ℕ) (fact : Fact) → refusal j now fact ≡ None → IsSettled j → IsSettled (step j now fact)
-step_is j now fact free was =
+-- the fact of a step, with its effect and settled
+pub fact_is : (j : Journal) (now : ℕ) (fact : Fact) → refusal j now fact ≡ None → IsSettled j → IsSettled (settled (with_fact j now fact) now)
+fact_is j now fact free was =
     let done = effected (Happened now fact true ∷ j) (effects j now fact) (are_effects j now fact) in
     settled_is (with_fact j now fact) now (done.sound (sound_fact j now fact free was.sound)) (done.allowed was.allowed) done.moment
+
+-- a part behind octets
+pub part_is : (j : Journal) (now conn : ℕ) (part : Entry) → IsBehind now conn part → has_ended j conn ≡ true → IsSettled j → IsSettled (settled (with_part j now part) now)
+part_is j now conn (Happened moment (Delivered to head payload) false) behind used was =
+    let done = effected (Happened moment (Delivered to head payload) false ∷ j) (effects j now (Delivered to head payload)) (are_effects j now (Delivered to head payload)) in
+    settled_is (with_part j now (Happened moment (Delivered to head payload) false)) now (done.sound (sound_delivered j moment to head payload false was.sound)) (done.allowed was.allowed) (done.moment ∙ behind.0)
+part_is j now conn (Cut moment to count) behind used was =
+    let done = effected (Cut moment to count ∷ j) (cut_effects j to count) (tt, are_lost (outstanding j to)) in
+    settled_is (with_part j now (Cut moment to count)) now (done.sound (sound_cut j moment to count (subst (λ n. has_ended j n ≡ true) (sym behind.1) used) was.sound)) (done.allowed was.allowed) (done.moment ∙ behind.0)
+part_is j now conn _ behind used was = absurd behind
+
+pub follow_is : (j : Journal) (now conn : ℕ) (parts : List Entry) → AreBehind now conn parts → has_ended j conn ≡ true → IsSettled j → IsSettled (follow j now parts)
+follow_is j now conn [] behind used was = was
+follow_is j now conn (part ∷ parts) behind used was =
+    follow_is (settled (with_part j now part) now) now conn parts behind.1 (ended_part j now part conn used) (part_is j now conn part behind.0 used was)
+
+pub parts_are : (j : Journal) (now : ℕ) (fact : Fact) → refusal j now fact ≡ None → IsSettled j → IsSettled (follow j now (parts_of j now fact))
+parts_are j now (Input conn bytes) free was =
+    let used : has_ended j conn ≡ true = used_of j conn (input_open j now conn bytes free) was.sound in
+    follow_is (settled (with_fact j now (Input conn bytes)) now) now conn (deliveries now conn (octets_on j conn) bytes) (all_behind now conn (octets_on j conn) bytes)
+    (ended_part j now (Happened now (Input conn bytes) true) conn used) (fact_is j now (Input conn bytes) free was)
+parts_are j now fact free was = fact_is j now fact free was
+
+-- what is told who asked changes nothing
+told_is : (j : Journal) (o : Origin) (cs : List ℕ) → IsSettled j → IsSettled (Taken (Who o cs) ∷ j)
+told_is j o cs was = record {
+  sound = sound_told j o cs was.sound;
+  allowed = (tt, was.allowed);
+  rests = λ q found. rests_still j (Taken (Who o cs) ∷ j) (newest_moment j) q (quiet_told j (newest_moment j) o cs) (was.rests q found);
+}
+
+answer_is : (j : Journal) (now : ℕ) (fact : Fact) → IsSettled j → IsSettled (with_answer j now fact)
+answer_is j now (fact.Who o) was = told_is j o (map (λ (c : Connection). c.number) (carriers j o now)) was
+answer_is j now fact was = was
+
+pub step_is : (j : Journal) (now : ℕ) (fact : Fact) → refusal j now fact ≡ None → IsSettled j → IsSettled (step j now fact)
+step_is j now fact free was = answer_is (follow j now (parts_of j now fact)) now fact (parts_are j now fact free was)
 
 pub each : {j : Journal} → IsRun j → IsSettled j
 each Begun = begun

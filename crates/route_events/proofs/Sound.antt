@@ -5,25 +5,26 @@ use Rattle.std.specs.Option.{option_map, option_map_or}
 use Rattle.std.proofs.lemmas.List.{length-append}
 use Rattle.coalescing.specs.declared.cert_name.CertName.{CertName}
 use Rattle.altsvc_grammar.specs.declared.alt_svc.AltSvc.{AltSvc}
+use Rattle.h2_framing.specs.declared.head.Head.{Head}
 use Rattle.origin_values.specs.declared.origin.Origin.{Origin}
 use Rattle.origin_values.specs.declared.host.Host.{Host}
 use Rattle.origin_values.specs.declared.proto.Proto.{Proto}
 use Rattle.origin_values.specs.declared.address.Addr.{Addr}
 use Rattle.route_events.specs.declared.fact.Fact.{Fact}
 use Rattle.route_events.specs.declared.fact.Fact.TheVariants as fact
-use Rattle.route_events.specs.declared.action.Action.TheVariants.{OpenTo, SendOn, Refuse, Lost, Retry, Alternatives, Field}
+use Rattle.route_events.specs.declared.action.Action.TheVariants.{OpenTo, SendOn, Refuse, Lost, Retry, Close, Alternatives, Field, Ignored, Origins, Who}
 use Rattle.route_events.specs.declared.route.Route.{Route}
 use Rattle.route_events.specs.declared.request.Request.{Request}
 use Rattle.route_events.specs.declared.attempt.Attempt.{Attempt}
 use Rattle.route_events.specs.declared.connection.Connection.{Connection}
 use Rattle.route_events.specs.declared.refusal.StepRefusal.{StepRefusal}
 use Rattle.route_events.specs.declared.refusal.StepRefusal.TheVariants.{NumberNotAbove, NoSuchAttempt, NoSuchConn}
-use Rattle.route_events.specs.Journal.{Happened, Taken, Journal, newest_moment, step_count, with_end}
+use Rattle.route_events.specs.Journal.{Happened, Cut, Taken, Journal, newest_moment, step_count, with_end}
 use Rattle.route_events.specs.Attempts.{attempts, has_ended, pending, pending_attempt, is_pending}
 use Rattle.route_events.specs.Requests.{Standing, OutOn, Over, requests, newest_number, standing, waits, after_status}
-use Rattle.route_events.specs.Connections.{connections, closes, is_open, open_connections, is_open_number, outstanding, send_count, without}
+use Rattle.route_events.specs.Connections.{connections, closes, is_open, open_connections, open_connection, is_open_number, outstanding, send_count, without}
 use Rattle.std.specs.List.{list_any}
-use Rattle.route_events.specs.Step.{refusal}
+use Rattle.route_events.specs.Step.{frame_refusal, refusal}
 use Rattle.route_events.proofs.Lists.{IsIn, AreApart, nat_eq-below, in_append_one, apart_append_one, in_filter, find_in}
 use Rattle.alt_base.proofs.Booleans.{contradicts, second_of_neither}
 use Rattle.alt_base.proofs.Numbers.{true_eq, eq_self}
@@ -214,6 +215,62 @@ sound_field j q reason place sound = record {
   unused = sound.unused;
 }
 
+pub sound_close : (j : Journal) (c count : ℕ) → Sound j → Sound (Taken (Close c count) ∷ j)
+sound_close j c count sound = record {
+  counted = sound.counted;
+  not_ended = sound.not_ended;
+  attempts_apart = sound.attempts_apart;
+  requests_apart = sound.requests_apart;
+  newest = sound.newest;
+  connections_apart = sound.connections_apart;
+  ended = sound.ended;
+  out_stands = sound.out_stands;
+  out_known = sound.out_known;
+  unused = sound.unused;
+}
+
+pub sound_ignored : (j : Journal) (c kind reason place : ℕ) → Sound j → Sound (Taken (Ignored c kind reason place) ∷ j)
+sound_ignored j c kind reason place sound = record {
+  counted = sound.counted;
+  not_ended = sound.not_ended;
+  attempts_apart = sound.attempts_apart;
+  requests_apart = sound.requests_apart;
+  newest = sound.newest;
+  connections_apart = sound.connections_apart;
+  ended = sound.ended;
+  out_stands = sound.out_stands;
+  out_known = sound.out_known;
+  unused = sound.unused;
+}
+
+pub sound_origins : (j : Journal) (c taken skipped : ℕ) → Sound j → Sound (Taken (Origins c taken skipped) ∷ j)
+sound_origins j c taken skipped sound = record {
+  counted = sound.counted;
+  not_ended = sound.not_ended;
+  attempts_apart = sound.attempts_apart;
+  requests_apart = sound.requests_apart;
+  newest = sound.newest;
+  connections_apart = sound.connections_apart;
+  ended = sound.ended;
+  out_stands = sound.out_stands;
+  out_known = sound.out_known;
+  unused = sound.unused;
+}
+
+pub sound_told : (j : Journal) (o : Origin) (cs : List ℕ) → Sound j → Sound (Taken (Who o cs) ∷ j)
+sound_told j o cs sound = record {
+  counted = sound.counted;
+  not_ended = sound.not_ended;
+  attempts_apart = sound.attempts_apart;
+  requests_apart = sound.requests_apart;
+  newest = sound.newest;
+  connections_apart = sound.connections_apart;
+  ended = sound.ended;
+  out_stands = sound.out_stands;
+  out_known = sound.out_known;
+  unused = sound.unused;
+}
+
 -- facts
 
 -- what a fact that isn't refused meets
@@ -241,6 +298,14 @@ failed_pending j now m free = taken_where (is_pending j m) NoSuchAttempt (not_ea
 
 pub closed_open : (j : Journal) (now c : ℕ) → refusal j now (fact.Closed c) ≡ None → is_open_number j c ≡ true
 closed_open j now c free = taken_where (is_open_number j c) NoSuchConn (not_earlier (nat_lt now (newest_moment j)) _ _ (not_earlier (nat_eq (step_count j) 16777215) _ _ free))
+
+-- octets and frames come on a connection that is open
+frame_open : (w : Option Connection) → frame_refusal w ≡ None → is_some w ≡ true
+frame_open None e = absurd (true≢false (ap is_some e))
+frame_open (Some c) e = refl
+
+pub input_open : (j : Journal) (now c : ℕ) (bytes : List ℕ) → refusal j now (fact.Input c bytes) ≡ None → is_open_number j c ≡ true
+input_open j now c bytes free = frame_open (open_connection j c) (not_earlier (nat_lt now (newest_moment j)) _ _ (not_earlier (nat_eq (step_count j) 16777215) _ _ free))
 
 pub sound_request : (j : Journal) (now n : ℕ) (o : Origin) (handed_in : Bool) → newest_number j < n → Sound j → Sound (Happened now (fact.Request n o) handed_in ∷ j)
 sound_request j now n o handed_in above sound =
@@ -361,6 +426,18 @@ opened_of j c h = by_found (find (λ (x : Connection). nat_eq x.number c) (open_
         let there = find_in (λ (x : Connection). nat_eq x.number c) (open_connections j) x e in
         record { connection = x; found = e; there = there.0; made = (in_filter (is_open j) x (connections j) there.0).0; numbered = true_eq x.number c there.1 }
 
+-- the attempt of an open connection has ended
+pub used_of : (j : Journal) (c : ℕ) → is_open_number j c ≡ true → Sound j → has_ended j c ≡ true
+used_of j c is_open_now sound = let is = opened_of j c is_open_now in subst (λ k. has_ended j k ≡ true) is.numbered (sound.ended is.connection is.made)
+
+-- a connection whose attempt has ended closes, by a fact or by a cut
+closed_unused : (j : Journal) (c : ℕ) → has_ended j c ≡ true → Sound j → (n : ℕ) → has_ended j n ≡ false → (nat_eq c n || list_any (closes n) j) ≡ false
+closed_unused j c used sound n h = by_test (nat_eq c n) refl
+  where
+    by_test : (b : Bool) → nat_eq c n ≡ b → (b || list_any (closes n) j) ≡ false
+    by_test false e = (sound.unused n h).2
+    by_test true e = contradicts (has_ended j c) used (ap (has_ended j) (true_eq c n e) ∙ h)
+
 pub sound_closed : (j : Journal) (now c : ℕ) (handed_in : Bool) → is_open_number j c ≡ true → Sound j → Sound (Happened now (fact.Closed c) handed_in ∷ j)
 sound_closed j now c handed_in is_open_now sound = record {
   counted = sound.counted;
@@ -372,15 +449,22 @@ sound_closed j now c handed_in is_open_now sound = record {
   ended = sound.ended;
   out_stands = sound.out_stands;
   out_known = sound.out_known;
-  unused = λ n h. ((sound.unused n h).0, (sound.unused n h).1, by_test n h (nat_eq c n) refl);
+  unused = λ n h. ((sound.unused n h).0, (sound.unused n h).1, closed_unused j c (used_of j c is_open_now sound) sound n h);
 }
-  where
-    used : has_ended j c ≡ true
-    used = let is = opened_of j c is_open_now in subst (λ k. has_ended j k ≡ true) is.numbered (sound.ended is.connection is.made)
 
-    by_test : (n : ℕ) → has_ended j n ≡ false → (b : Bool) → nat_eq c n ≡ b → (b || list_any (closes n) j) ≡ false
-    by_test n h false e = (sound.unused n h).2
-    by_test n h true e = contradicts (has_ended j c) used (ap (has_ended j) (true_eq c n e) ∙ h)
+pub sound_cut : (j : Journal) (now c count : ℕ) → has_ended j c ≡ true → Sound j → Sound (Cut now c count ∷ j)
+sound_cut j now c count used sound = record {
+  counted = sound.counted;
+  not_ended = sound.not_ended;
+  attempts_apart = sound.attempts_apart;
+  requests_apart = sound.requests_apart;
+  newest = sound.newest;
+  connections_apart = sound.connections_apart;
+  ended = sound.ended;
+  out_stands = sound.out_stands;
+  out_known = sound.out_known;
+  unused = λ n h. ((sound.unused n h).0, (sound.unused n h).1, closed_unused j c used sound n h);
+}
 
 -- a request that is answered isn't outstanding any more
 pub sound_response : (j : Journal) (now q status age : ℕ) (altsvc : Option (List ℕ)) (handed_in : Bool) → Sound j → Sound (Happened now (fact.Response q status age altsvc) handed_in ∷ j)
@@ -399,6 +483,48 @@ sound_response j now q status age altsvc handed_in sound =
       unused = lost.unused;
     }
 
+pub sound_input : (j : Journal) (now : ℕ) (c : ℕ) (bytes : List ℕ) (handed_in : Bool) → Sound j → Sound (Happened now (fact.Input c bytes) handed_in ∷ j)
+sound_input j now c bytes handed_in sound = record {
+  counted = sound.counted;
+  not_ended = sound.not_ended;
+  attempts_apart = sound.attempts_apart;
+  requests_apart = sound.requests_apart;
+  newest = sound.newest;
+  connections_apart = sound.connections_apart;
+  ended = sound.ended;
+  out_stands = sound.out_stands;
+  out_known = sound.out_known;
+  unused = sound.unused;
+}
+
+pub sound_delivered : (j : Journal) (now : ℕ) (c : ℕ) (head : Head) (payload : List ℕ) (handed_in : Bool) → Sound j → Sound (Happened now (fact.Delivered c head payload) handed_in ∷ j)
+sound_delivered j now c head payload handed_in sound = record {
+  counted = sound.counted;
+  not_ended = sound.not_ended;
+  attempts_apart = sound.attempts_apart;
+  requests_apart = sound.requests_apart;
+  newest = sound.newest;
+  connections_apart = sound.connections_apart;
+  ended = sound.ended;
+  out_stands = sound.out_stands;
+  out_known = sound.out_known;
+  unused = sound.unused;
+}
+
+pub sound_who : (j : Journal) (now : ℕ) (o : Origin) (handed_in : Bool) → Sound j → Sound (Happened now (fact.Who o) handed_in ∷ j)
+sound_who j now o handed_in sound = record {
+  counted = sound.counted;
+  not_ended = sound.not_ended;
+  attempts_apart = sound.attempts_apart;
+  requests_apart = sound.requests_apart;
+  newest = sound.newest;
+  connections_apart = sound.connections_apart;
+  ended = sound.ended;
+  out_stands = sound.out_stands;
+  out_known = sound.out_known;
+  unused = sound.unused;
+}
+
 -- each fact that isn't refused
 pub sound_fact : (j : Journal) (now : ℕ) (fact : Fact) → refusal j now fact ≡ None → Sound j → Sound (Happened now fact true ∷ j)
 sound_fact j now (fact.Request n o) free sound = sound_request j now n o true (above_newest j now n o free) sound
@@ -406,5 +532,8 @@ sound_fact j now (fact.Opened m p d port names) free sound = sound_opened j now 
 sound_fact j now (fact.Failed m) free sound = sound_failed j now m true (failed_pending j now m free) sound
 sound_fact j now (fact.Closed c) free sound = sound_closed j now c true (closed_open j now c free) sound
 sound_fact j now (fact.Response q status age altsvc) free sound = sound_response j now q status age altsvc true sound
+sound_fact j now (fact.Input c bytes) free sound = sound_input j now c bytes true sound
+sound_fact j now (fact.Delivered c head payload) free sound = sound_delivered j now c head payload true sound
 sound_fact j now fact.Network free sound = record { counted = sound.counted; not_ended = sound.not_ended; attempts_apart = sound.attempts_apart; requests_apart = sound.requests_apart; newest = sound.newest; connections_apart = sound.connections_apart; ended = sound.ended; out_stands = sound.out_stands; out_known = sound.out_known; unused = sound.unused }
 sound_fact j now fact.Tick free sound = record { counted = sound.counted; not_ended = sound.not_ended; attempts_apart = sound.attempts_apart; requests_apart = sound.requests_apart; newest = sound.newest; connections_apart = sound.connections_apart; ended = sound.ended; out_stands = sound.out_stands; out_known = sound.out_known; unused = sound.unused }
+sound_fact j now (fact.Who o) free sound = sound_who j now o true sound

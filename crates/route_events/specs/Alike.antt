@@ -6,11 +6,14 @@ use Rattle.origin_values.specs.declared.origin.Origin.{Origin}
 use Rattle.altsvc_grammar.specs.declared.alt_key.AltKey.{AltKey}
 use Rattle.route_events.specs.declared.route.Route.{Route}
 use Rattle.route_events.specs.declared.route.Route.TheVariants.{Alt}
+use Rattle.h2_framing.specs.Reading.{held_part}
 use Rattle.route_events.specs.declared.request.Request.{Request}
+use Rattle.route_events.specs.declared.connection.Connection.{Connection}
 use Rattle.route_events.specs.Journal.{Journal, step_count, newest_moment}
 use Rattle.route_events.specs.Attempts.{attempts, pending}
 use Rattle.route_events.specs.Requests.{newest_number, request_of, standing, is_out, waiting, sent_to}
 use Rattle.route_events.specs.Connections.{open_connections}
+use Rattle.route_events.specs.Frames.{unfinished_on}
 use Rattle.route_events.specs.Alternatives.{Took, live, took}
 use Rattle.route_events.specs.Records.{ConnectionRecord}
 use Rattle.route_events.specs.Authority.{record_of}
@@ -39,6 +42,11 @@ pub record SameOutstanding (j k : Journal) (number : ℕ) : Type 0 where
   pub sent : sent_to j number ≡ sent_to k number
   pub tried : (q : Request) → request_of j number ≡ Some q → SameTries j k q
 
+-- the unfinished frame on a connection: its octets, or, of one that will be passed, its head and how many there are
+pub record SameUnfinished (j k : Journal) (conn : ℕ) : Type 0 where
+  pub held : held_part (unfinished_on j conn) ≡ held_part (unfinished_on k conn)
+  pub count : length (unfinished_on j conn) ≡ length (unfinished_on k conn)
+
 -- the moment and the age of a value
 abbrev pub brought : Option Took → Option (ℕ × ℕ)
 brought taken = option_map (λ (t : Took). (t.moment, t.age)) taken
@@ -59,6 +67,7 @@ pub record Alike (j k : Journal) : Type 0 where
   pub pending : pending j ≡ pending k
   pub connections : open_connections j ≡ open_connections k
   pub records : All (λ c. SameRecord (record_of j c) (record_of k c)) (open_connections j)
+  pub unfinished : All (λ (c : Connection). SameUnfinished j k c.number) (open_connections j)
   -- the requests that wait and those that are outstanding
   pub tried : All (SameTries j k) (waiting j)
   pub waiting : waiting j ≡ waiting k

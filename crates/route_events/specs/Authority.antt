@@ -4,13 +4,10 @@ use Rattle.std.specs.Cmp.Lexicographic.{pointwise}
 use Rattle.altsvc_grammar.specs.Keys.{key_eq}
 use Rattle.altsvc_grammar.specs.declared.alt.Alt.{Alt}
 use Rattle.coalescing.specs.Covers.{covers}
-use Rattle.origin_values.specs.Equality.{origin_eq, host_eq}
+use Rattle.origin_values.specs.Equality.{origin_eq}
 use Rattle.origin_values.specs.declared.scheme.Scheme.{Scheme}
 use Rattle.origin_values.specs.declared.scheme.Scheme.TheVariants.{Http, Https}
-use Rattle.origin_values.specs.declared.host.Host.{Host}
-use Rattle.origin_values.specs.declared.host.Host.TheVariants as host
 use Rattle.origin_values.specs.declared.address.Addr.{Addr}
-use Rattle.origin_values.specs.declared.address.Addr.TheVariants as address
 use Rattle.origin_values.specs.declared.origin.Origin.{Origin}
 use Rattle.origin_values.specs.declared.protos.Protos.{Protos}
 use Rattle.origin_values.specs.declared.proto.Proto.{Proto}
@@ -22,7 +19,9 @@ use Rattle.route_events.specs.declared.reach.Reach.{Reach}
 use Rattle.route_events.specs.declared.fact.Fact.TheVariants as fact
 use Rattle.route_events.specs.declared.action.Action.TheVariants as action
 use Rattle.route_events.specs.Journal.{Happened, Cut, Taken, Journal}
+pub use Rattle.route_events.specs.Connections.{is_https, is_tls, is_h2}
 use Rattle.route_events.specs.Connections.{is_open, outstanding, send_count}
+pub use Rattle.route_events.specs.OriginSets.{addr_host, initial_host, is_initial, is_gated, in_set}
 use Rattle.route_events.specs.Misdirection.{is_misdirected}
 use Rattle.route_events.specs.Records.{ConnectionRecord}
 use Rattle.route_events.specs.Alternatives.{alternatives_of, is_listed, live}
@@ -33,10 +32,6 @@ route_eq route.Direct route.Direct = true
 route_eq route.Direct (route.Alt b) = false
 route_eq (route.Alt a) route.Direct = false
 route_eq (route.Alt a) (route.Alt b) = key_eq a b
-
-abbrev pub is_https : Scheme → Bool
-is_https Http = false
-is_https Https = true
 
 -- the protocol of an ALPN identifier (RFC 7301 6), none where it isn't a supported one
 abbrev pub named : List ℕ → Protos
@@ -54,10 +49,6 @@ is_among protos H3 = protos.h3
 is_among protos Http11 = protos.http11
 is_among protos Other = false
 
--- a connection is one of TLS where the origin that it was opened for is https
-abbrev pub is_tls : Connection → Bool
-is_tls c = is_https c.origin.scheme
-
 -- the opening was a success of its attempt: the protocol is one of the route's and, for https, the names cover the
 -- origin's host (RFC 9110 4.3.4)
 abbrev pub is_success : Connection → Bool
@@ -71,12 +62,6 @@ gives alts (route.Alt key) = is_listed alts key
 -- the basis of a connection, as one question of its record: it was opened for the origin, and what it rests on stands
 abbrev pub rests_on : ConnectionRecord → Origin → Bool
 rests_on c o = origin_eq c.made.origin o && c.bound
-
-abbrev pub is_h2 : Proto → Bool
-is_h2 H2 = true
-is_h2 H3 = false
-is_h2 Http11 = false
-is_h2 Other = false
 
 -- a connection of HTTP/2 stands at the origin's port and at one of its addresses (RFC 9113 9.1.1)
 abbrev pub may_coalesce : Connection → Origin → Reach → Bool
@@ -114,27 +99,6 @@ is_upheld (Cut moment conn length ∷ older) c = is_upheld older c
 is_upheld (Taken (action.Alternatives o value) ∷ older) c =
     (not (origin_eq o c.origin) || gives (alternatives_of value) c.route) && is_upheld older c
 is_upheld (Taken _ ∷ older) c = is_upheld older c
-
--- an ORIGIN frame was accepted on the connection (RFC 8336 2.3). No frame is read yet.
-abbrev pub is_gated : Journal → Connection → Bool
-is_gated journal c = false
-
--- the host of the initial origin: the name that the connection was opened for, else its remote address
-abbrev pub addr_host : Addr → Host
-addr_host (address.V4 bytes) = host.V4 bytes
-addr_host (address.V6 bytes) = host.V6 bytes
-
-abbrev pub initial_host : Host → Addr → Host
-initial_host (host.Name name) addr = host.Name name
-initial_host _ addr = addr_host addr
-
--- an origin is the initial one of a connection (RFC 8336 2.3)
-abbrev pub is_initial : Connection → Origin → Bool
-is_initial c o = is_https o.scheme && (host_eq (initial_host c.origin.host c.addr) o.host && nat_eq c.port o.port)
-
--- the origin set holds an origin: it is the initial one, or an accepted frame listed it. No frame is read yet.
-abbrev pub in_set : Journal → Connection → Origin → Bool
-in_set journal c o = is_initial c o
 
 -- the record of a connection
 abbrev pub record_of : Journal → Connection → ConnectionRecord

@@ -2,6 +2,8 @@
 use Rattle.std.specs.Prelude.{ℕ, ◌+◌, Bool, true, false, not, ◌&&◌, nat_eq, List, [], ◌∷◌, ◌++◌, Option, Some, None, if◌then◌else◌, filter, find, is_some}
 use Rattle.std.specs.Option.{option_map, option_map_or}
 use Rattle.std.specs.List.{list_any}
+use Rattle.origin_values.specs.declared.scheme.Scheme.{Scheme}
+use Rattle.origin_values.specs.declared.scheme.Scheme.TheVariants.{Http, Https}
 use Rattle.origin_values.specs.declared.proto.Proto.{Proto}
 use Rattle.origin_values.specs.declared.proto.Proto.TheVariants.{H2, H3, Http11, Other}
 use Rattle.route_events.specs.declared.fact.Fact.{Fact}
@@ -17,6 +19,14 @@ abbrev pub connection_in : Journal → Fact → Option Connection
 connection_in older (fact.Opened attempt proto addr port names) =
     option_map (λ (a : Attempt). record { number = attempt; origin = a.origin; route = a.route; proto = proto; addr = addr; port = port; names = names }) (pending_attempt older attempt)
 connection_in older _ = None
+
+-- a connection is one of TLS where the origin that it was opened for is https
+abbrev pub is_https : Scheme → Bool
+is_https Http = false
+is_https Https = true
+
+abbrev pub is_tls : Connection → Bool
+is_tls c = is_https c.origin.scheme
 
 -- all connections in the order of their opening
 abbrev pub connections : Journal → List Connection
@@ -48,8 +58,12 @@ is_open journal c = not (list_any (closes c.number) journal)
 abbrev pub open_connections : Journal → List Connection
 open_connections journal = filter (is_open journal) (connections journal)
 
+-- the open connection of a number
+abbrev pub open_connection : Journal → ℕ → Option Connection
+open_connection journal number = find (λ (c : Connection). nat_eq c.number number) (open_connections journal)
+
 abbrev pub is_open_number : Journal → ℕ → Bool
-is_open_number journal number = is_some (find (λ (c : Connection). nat_eq c.number number) (open_connections journal))
+is_open_number journal number = is_some (open_connection journal number)
 
 abbrev pub without : ℕ → List ℕ → List ℕ
 without number numbers = filter (λ n. not (nat_eq n number)) numbers
@@ -83,6 +97,13 @@ send_count (Happened moment fact handed_in ∷ older) conn = send_count older co
 send_count (Cut moment cut length ∷ older) conn = send_count older conn
 send_count (Taken (action.SendOn request to stream alt_used) ∷ older) conn = if nat_eq to conn then send_count older conn + 1 else send_count older conn
 send_count (Taken _ ∷ older) conn = send_count older conn
+
+-- a connection of HTTP/2
+abbrev pub is_h2 : Proto → Bool
+is_h2 H2 = true
+is_h2 H3 = false
+is_h2 Http11 = false
+is_h2 Other = false
 
 -- a connection that carries one request at a time (RFC 9112 9.3)
 abbrev pub is_http11 : Proto → Bool

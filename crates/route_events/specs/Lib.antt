@@ -2,6 +2,8 @@ pub mod Journal
 pub mod Attempts
 pub mod Requests
 pub mod Connections
+pub mod Frames
+pub mod OriginSets
 pub mod Misdirection
 pub mod Alternatives
 pub mod Records
@@ -10,6 +12,7 @@ pub mod Backoff
 pub mod Routes
 pub mod Dispatch
 pub mod Advertisements
+pub mod FrameAdvertisements
 pub mod Step
 pub mod Distinct
 pub mod InWords
@@ -17,3 +20,4 @@ pub mod Alike
 pub mod Headline
 pub mod WorkedHistories
 pub mod WorkedAlternatives
+pub mod WorkedFrames

@@ -14,6 +14,7 @@ use Rattle.route_events.specs.declared.request.Request.{Request}
 use Rattle.route_events.specs.declared.connection.Connection.{Connection}
 use Rattle.route_events.specs.Journal.{Happened, Cut, Taken, Journal}
 use Rattle.route_events.specs.Requests.{request_of}
+use Rattle.route_events.specs.OriginSets.{lists}
 use Rattle.route_events.specs.Connections.{open_connections, is_one_of, outstanding}
 
 -- the request that a fact turns away: its response has the status 421
@@ -29,11 +30,13 @@ asks_for journal o number = option_map_or (λ (q : Request). origin_eq q.origin 
 abbrev pub turns_away : Journal → ℕ → Origin → Fact → Bool
 turns_away older conn o fact = option_map_or (λ number. is_one_of number (outstanding older conn) && asks_for older o number) (turned_away_in fact) false
 
--- a connection is misdirected for an origin: since it opened, a 421 came on it for a request of the origin. What gives the
--- origin back is an ORIGIN frame that lists it (RFC 8336 2.3); none is read yet.
+-- a connection is misdirected for an origin: since it opened, a 421 came on it for a request of the origin, and since then
+-- no ORIGIN frame that lists the origin was accepted on it (RFC 8336 2.3)
 abbrev pub is_misdirected : Journal → Connection → Origin → Bool
 is_misdirected [] c o = false
 is_misdirected (Happened moment (fact.Opened attempt proto addr port names) handed_in ∷ older) c o = not (nat_eq attempt c.number) && is_misdirected older c o
+is_misdirected (Happened moment (fact.Delivered conn head payload) handed_in ∷ older) c o =
+    not (lists c o (fact.Delivered conn head payload)) && is_misdirected older c o
 is_misdirected (Happened moment fact handed_in ∷ older) c o = turns_away older c.number o fact || is_misdirected older c o
 is_misdirected (Cut moment conn length ∷ older) c o = is_misdirected older c o
 is_misdirected (Taken action ∷ older) c o = is_misdirected older c o

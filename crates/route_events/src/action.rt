@@ -33,6 +33,11 @@ pub enum Action {
     Retry {
         request: u32,
     },
+    /// A connection is closed: the head of a frame gave this length, which is too large (RFC 9113 4.2).
+    Close {
+        conn: u64,
+        length: u32,
+    },
     /// A value of Alt-Svc was taken: from now on it is all that is known of the origin's alternatives (RFC 7838 3).
     Alternatives {
         origin: Origin,
@@ -46,7 +51,31 @@ pub enum Action {
         reason: u8,
         place: u32,
     },
+    /// A frame of this kind, 10 (ALTSVC) or 12 (ORIGIN), was ignored for this reason: 1 to 6, or 1 to 3 for ORIGIN, where its
+    /// payload is none, in the order of `AltFrameRefusal` and `OriginFrameRefusal`, with the place; 7 where the connection
+    /// isn't authoritative for the origin, 8 where no request is outstanding on the stream, 9 where the origin is of http,
+    /// and 10 where the connection is without TLS, all four with place 0.
+    Ignored {
+        conn: u64,
+        kind: u8,
+        reason: u8,
+        place: u32,
+    },
+    /// An ORIGIN frame was accepted (RFC 8336 2.3): how many origins it listed, and how many entries were skipped.
+    Origins {
+        conn: u64,
+        taken: u32,
+        skipped: u32,
+    },
+    /// These connections are authoritative for an origin, in the order of their opening.
+    Who {
+        origin: Origin,
+        conns: Conns,
+    },
 }
+
+/// Numbers of connections in order.
+pub type Conns = ListOf<u64>;
 
 /// Actions in order.
 pub type Actions = ListOf<Action>;
@@ -80,6 +109,10 @@ impl Duplicate for Action {
             Action::Refuse { request } => Ok(Action::Refuse { request: *request }),
             Action::Lost { request } => Ok(Action::Lost { request: *request }),
             Action::Retry { request } => Ok(Action::Retry { request: *request }),
+            Action::Close { conn, length } => Ok(Action::Close {
+                conn: *conn,
+                length: *length,
+            }),
             Action::Alternatives { origin, value } => Ok(Action::Alternatives {
                 origin: origin.copy(alloc)?,
                 value: value.copy(alloc)?,
@@ -92,6 +125,30 @@ impl Duplicate for Action {
                 request: *request,
                 reason: *reason,
                 place: *place,
+            }),
+            Action::Ignored {
+                conn,
+                kind,
+                reason,
+                place,
+            } => Ok(Action::Ignored {
+                conn: *conn,
+                kind: *kind,
+                reason: *reason,
+                place: *place,
+            }),
+            Action::Origins {
+                conn,
+                taken,
+                skipped,
+            } => Ok(Action::Origins {
+                conn: *conn,
+                taken: *taken,
+                skipped: *skipped,
+            }),
+            Action::Who { origin, conns } => Ok(Action::Who {
+                origin: origin.copy(alloc)?,
+                conns: conns.copy(alloc)?,
             }),
         }
     }

@@ -1,5 +1,6 @@
 use alt_base::{Bytes, Duplicate, NoMemory};
 use coalescing::CertNames;
+use h2_framing::Head;
 use origin_values::{Addr, Origin, Proto};
 use std::alloc::Global;
 
@@ -37,10 +38,27 @@ pub enum Fact {
         age: u32,
         altsvc: Option<Bytes>,
     },
+    /// Octets of the server came on a connection of HTTP/2 (RFC 9113 4.1), behind those that came on it before. They end
+    /// frames in whatever pieces they come; at most 65,536 come at once.
+    Input {
+        conn: u64,
+        bytes: Bytes,
+    },
+    /// An ALTSVC frame (kind 10, RFC 7838 4) or an ORIGIN frame (kind 12, RFC 8336 2) came whole on a connection: the rules
+    /// make it of octets, or it is handed in beside them. A payload has at most 16,384 octets.
+    Delivered {
+        conn: u64,
+        head: Head,
+        payload: Bytes,
+    },
     /// The network changed: the client reaches the world by other ways than before.
     Network,
     /// Nothing but that time has come this far.
     Tick,
+    /// Which connections are authoritative for an origin is asked.
+    Who {
+        origin: Origin,
+    },
 }
 
 impl Duplicate for Fact {
@@ -79,8 +97,24 @@ impl Duplicate for Fact {
                     Some(value) => Some(value.copy(alloc)?),
                 },
             }),
+            Fact::Input { conn, bytes } => Ok(Fact::Input {
+                conn: *conn,
+                bytes: bytes.copy(alloc)?,
+            }),
+            Fact::Delivered {
+                conn,
+                head,
+                payload,
+            } => Ok(Fact::Delivered {
+                conn: *conn,
+                head: *head,
+                payload: payload.copy(alloc)?,
+            }),
             Fact::Network => Ok(Fact::Network),
             Fact::Tick => Ok(Fact::Tick),
+            Fact::Who { origin } => Ok(Fact::Who {
+                origin: origin.copy(alloc)?,
+            }),
         }
     }
 }

@@ -1,16 +1,19 @@
 //! Laws of the journal, stated over its definitions alone.
-ghost use Rattle.std.specs.Prelude.{◌≡◌, ◌↔◌, ℕ, true, false, List, [], ◌∷◌, ◌++◌, Some, Any};
+ghost use Rattle.std.specs.Prelude.{◌≡◌, ◌↔◌, ℕ, true, false, List, [], ◌∷◌, ◌++◌, Some, None, All, Any};
 ghost use Rattle.std.specs.List.{list_any};
 ghost use Rattle.origin_values.specs.Equality.{origin_eq};
 ghost use Rattle.origin_values.specs.declared.origin.Origin.{Origin as OriginValue};
 ghost use Rattle.altsvc_grammar.specs.declared.alt.Alt.{Alt as Alternative};
+ghost use Rattle.h2_framing.specs.Streams.{too_large_of};
+ghost use Rattle.route_events.specs.declared.connection.Connection.{Connection as ConnectionValue};
 ghost use Rattle.route_events.specs.declared.fact.Fact.{Fact as FactValue};
 ghost use Rattle.route_events.specs.declared.reach.Reach.{Reach as ReachValue};
 ghost use Rattle.route_events.specs.declared.route.Route.{Route as RouteValue};
 ghost use Rattle.route_events.specs.Journal.{Journal, Happened, Taken, newest_moment};
-ghost use Rattle.route_events.specs.Step.{step, run, IsRun, settled};
+ghost use Rattle.route_events.specs.Step.{step, run, refusal, newest_actions, IsRun, settled};
 ghost use Rattle.route_events.specs.Requests.{OutOn, standing};
-ghost use Rattle.route_events.specs.Connections.{is_one_of, outstanding};
+ghost use Rattle.route_events.specs.Connections.{open_connections, is_one_of, outstanding};
+ghost use Rattle.route_events.specs.Frames.{octets_on};
 ghost use Rattle.route_events.specs.Alternatives.{live};
 ghost use Rattle.route_events.specs.Records.{ConnectionRecord};
 ghost use Rattle.route_events.specs.Authority.{authorises, is_candidate};
@@ -52,6 +55,22 @@ pub fn each_action()
     ensures waits { (journal : Journal) → IsRun journal → WaitsOnlyFor journal }
     ensures settled { (journal : Journal) → IsRun journal → settled journal (newest_moment journal) ≡ journal }
     ensures runs { (events : List (ℕ × FactValue)) → IsRun (run [] events) }
+{}
+
+/// Only the octets that come on a connection and their moments matter, not how they are cut (RFC 9113 4.1): two inputs at
+/// one moment, with nothing between them and both taken, have together the actions of one input with both pieces, which is
+/// taken as well.
+pub fn pieces_join()
+    ensures actions { (journal : Journal) (now conn : ℕ) (a b : List ℕ) → IsRun journal →
+        refusal journal now (Fact.Input conn a) ≡ None → refusal (step journal now (Fact.Input conn a)) now (Fact.Input conn b) ≡ None →
+        newest_actions (step journal now (Fact.Input conn a)) ++ newest_actions (step (step journal now (Fact.Input conn a)) now (Fact.Input conn b))
+        ≡ newest_actions (step journal now (Fact.Input conn (a ++ b))) }
+    ensures taken { (journal : Journal) (now conn : ℕ) (a b : List ℕ) → refusal journal now (Fact.Input conn a) ≡ None → refusal journal now (Fact.Input conn (a ++ b)) ≡ None }
+{}
+
+/// The octets of an open connection have no head whose length is too large (RFC 9113 4.2): one that has closes it.
+pub fn open_goes_on()
+    ensures { (journal : Journal) → IsRun journal → All (λ (c : ConnectionValue). too_large_of (octets_on journal c.number) ≡ None) (open_connections journal) }
 {}
 
 /// In the words of RFC 7838 (2.2, 3, 3.1), of every journal: an alternative is live where the value that was taken last for

@@ -14,14 +14,15 @@ mod refusal;
 mod request;
 mod route;
 
-pub use action::{Action, Actions};
+pub use action::{Action, Actions, Conns};
 pub use attempt::Attempt;
 pub use connection::Connection;
 pub use fact::Fact;
-pub use histories::{worked_alternatives, worked_histories};
+pub use histories::{worked_alternatives, worked_frames, worked_histories};
 pub use laws::{
     each_action, failures_in_words, live_in_words, nothing_elsewhere, only_candidates,
-    outstanding_in_words, refused_only_where, sent_only_on, settles_once, waits_only_for,
+    open_goes_on, outstanding_in_words, pieces_join, refused_only_where, sent_only_on,
+    settles_once, waits_only_for,
 };
 pub use protocols::{is_supported, protocols_of};
 pub use reach::Reach;

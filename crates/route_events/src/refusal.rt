@@ -11,8 +11,10 @@ pub enum StepRefusal {
     NumberNotAbove { last: u32 },
     /// An attempt that isn't pending can't end.
     NoSuchAttempt,
-    /// A connection that isn't open can't end.
+    /// A connection that isn't open can't end, and nothing comes on it.
     NoSuchConn,
+    /// On a connection that isn't one of HTTP/2 no frames come.
+    NotFramed,
     /// A request that isn't outstanding can't be answered.
     NoSuchRequest,
 }
