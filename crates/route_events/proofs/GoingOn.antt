@@ -1,21 +1,19 @@
 -- The octets of an open connection have no head whose length is too large.
-use Rattle.std.proofs.Common.{◌≡◌, ℕ, Bool, true, false, cond, not, ◌||◌, nat_eq, List, [], ◌∷◌, ◌++◌, Option, Some, None, All, refl, ap, sym, ◌∙◌, subst, true≢false}
+use Rattle.std.proofs.Common.{◌≡◌, ℕ, Bool, true, false, cond, nat_eq, List, [], ◌∷◌, ◌++◌, None, All, refl, ap, sym, ◌∙◌, subst, true≢false}
 use Rattle.std.specs.List.{list_any}
 use Rattle.std.proofs.lemmas.Bool.{not-true, or_right}
-use Rattle.alt_base.proofs.Booleans.{contradicts}
-use Rattle.alt_base.proofs.Numbers.{true_eq, eq_self}
+use Rattle.alt_base.proofs.Numbers.{true_eq}
 use Rattle.h2_framing.specs.Streams.{split_of, too_large_of}
 use Rattle.route_events.specs.declared.fact.Fact.{Fact}
 use Rattle.route_events.specs.declared.fact.Fact.TheVariants.{Input}
 use Rattle.route_events.specs.declared.connection.Connection.{Connection}
-use Rattle.route_events.specs.Journal.{Entry, Happened, Cut, Taken, Journal}
+use Rattle.route_events.specs.Journal.{Entry, Journal}
 use Rattle.route_events.specs.Requests.{waiting}
 use Rattle.route_events.specs.Connections.{connections, closes, is_open, open_connections}
-use Rattle.route_events.specs.Frames.{octets_on, deliveries}
-use Rattle.route_events.specs.Step.{IsRun, Begun, Stepped, part_effects, with_part, with_fact, settled, parts_of, parts_behind, follow, answer_to, with_answer, step}
-use Rattle.route_events.proofs.Lists.{IsIn, in_filter, all_from_in}
-use Rattle.route_events.proofs.Parts.{AreBehind, all_behind}
-use Rattle.route_events.proofs.PiecesJoin.{octets_with, octets_settled, octets_follow, closed_with, closed_settle, never_cut}
+use Rattle.route_events.specs.Frames.{octets_on}
+use Rattle.route_events.specs.Step.{IsRun, Begun, Stepped, part_effects, with_part, with_fact, settled, parts_of, follow, answer_to, step}
+use Rattle.route_events.proofs.Lists.{in_filter, all_from_in}
+use Rattle.route_events.proofs.PartsKeep.{octets_step, closed_with, closed_settle, never_cut}
 
 -- of each number that nothing closed
 abbrev GoesOn : Journal → Type 0
@@ -52,7 +50,7 @@ goes_input j now c bytes was n open_now =
     begun = settled (with_fact j now (Input c bytes)) now
 
     octets : octets_on (step j now (Input c bytes)) n ≡ cond (nat_eq c n) (octets_on j n ++ bytes) (octets_on j n)
-    octets = octets_follow begun now c (deliveries now c (octets_on j c) bytes) n (all_behind now c (octets_on j c) bytes) ∙ octets_settled j now (Happened now (Input c bytes) true) n
+    octets = octets_step j now (Input c bytes) n
 
     by_number : (b : Bool) → nat_eq c n ≡ b → too_large_of (cond b (octets_on j n ++ bytes) (octets_on j n)) ≡ None
     by_number true e =
@@ -64,8 +62,7 @@ goes_input j now c bytes was n open_now =
 goes_step : (j : Journal) (now : ℕ) (fact : Fact) → GoesOn j → GoesOn (step j now fact)
 goes_step j now (Input c bytes) was = goes_input j now c bytes was
 goes_step j now fact was = λ n open_now.
-    ap too_large_of (octets_with (settled (with_fact j now fact) now) (answer_to (settled (with_fact j now fact) now) now fact) n ∙ octets_settled j now (Happened now fact true) n)
-    ∙ was n (earlier _ _ (closed_step j now fact n) open_now)
+    ap too_large_of (octets_step j now fact n) ∙ was n (earlier _ _ (closed_step j now fact n) open_now)
 
 goes_on : {j : Journal} → IsRun j → GoesOn j
 goes_on Begun = λ n open_now. nothing_came

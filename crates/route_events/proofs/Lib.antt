@@ -12,7 +12,10 @@ pub mod Quiet
 pub mod Settles
 pub mod Parts
 pub mod Runs
+pub mod Deliveries
+pub mod PartsKeep
 pub mod Pieces
 pub mod PiecesDone
+pub mod PiecesLater
 pub mod PiecesJoin
 pub mod GoingOn

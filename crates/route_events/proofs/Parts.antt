@@ -1,10 +1,10 @@
 -- The parts of octets: each frame is delivered, and then comes the cut.
-use Rattle.std.proofs.Common.{◌≡◌, ℕ, Bool, true, false, List, [], ◌∷◌, ◌++◌, drop, length, Option, Some, None, refl, ap, sym, ◌∙◌}
+use Rattle.std.proofs.Common.{◌≡◌, ℕ, true, false, List, [], ◌∷◌, ◌++◌, Option, Some, None, refl}
 use Rattle.std.specs.List.{flat_map}
 use Rattle.std.proofs.lemmas.Bool.{or_right}
 use Rattle.h2_framing.specs.declared.frame.Frame.{Frame}
 use Rattle.h2_framing.specs.declared.frame.Frame.TheVariants.{Kept, Passed}
-use Rattle.h2_framing.specs.Streams.{frames_of, too_large_of}
+use Rattle.h2_framing.specs.Streams.{too_large_of}
 use Rattle.route_events.specs.declared.fact.Fact.TheVariants.{Delivered}
 use Rattle.route_events.specs.declared.action.Action.{Action}
 use Rattle.route_events.specs.declared.request.Request.{Request}

@@ -1,5 +1,5 @@
 -- Two journals that differ in how octets were cut into inputs say the same, but for the octets.
-use Rattle.std.proofs.Common.{◌≡◌, ℕ, ◌+◌, Bool, true, false, cond, not, ◌&&◌, ◌||◌, nat_eq, List, [], ◌∷◌, ◌++◌, length, Option, Some, None, filter, find, refl, ap, sym, ◌∙◌}
+use Rattle.std.proofs.Common.{◌≡◌, ℕ, ◌+◌, Bool, false, cond, not, ◌&&◌, ◌||◌, nat_eq, List, [], ◌∷◌, ◌++◌, Option, Some, None, filter, find, refl, ap, sym, ◌∙◌}
 use Rattle.std.specs.Option.{option_map, option_map_or}
 use Rattle.std.specs.List.{list_any}
 use Rattle.origin_values.specs.Equality.{origin_eq}
@@ -15,15 +15,14 @@ use Rattle.route_events.specs.declared.attempt.Attempt.{Attempt}
 use Rattle.route_events.specs.declared.connection.Connection.{Connection}
 use Rattle.route_events.specs.Journal.{Entry, Happened, Cut, Taken, Journal, of_fact, of_action, newest, readings, with_end, newest_moment}
 use Rattle.route_events.specs.Attempts.{attempt_in, ended_in, attempts, ends, has_ended, pending, pending_attempt}
-use Rattle.route_events.specs.Requests.{Standing, SentTo, request_in, requests, request_of, standing, waits, waiting, sent_to}
+use Rattle.route_events.specs.Requests.{request_in, requests, request_of, standing, waits, waiting, sent_to}
 use Rattle.route_events.specs.Connections.{connection_in, connections, closes, is_open, open_connections, open_connection, without, without_any, answered_in, is_one_of, outstanding, send_count}
-use Rattle.route_events.specs.OriginSets.{gates, lists, came_on, is_gated, is_initial, in_set}
-use Rattle.route_events.specs.Misdirection.{turned_away_in, asks_for, turns_away, was_opened_by, gives_up, is_misdirected}
+use Rattle.route_events.specs.OriginSets.{gates, lists, came_on, is_initial}
+use Rattle.route_events.specs.Misdirection.{turned_away_in, turns_away, was_opened_by, gives_up, is_misdirected}
 use Rattle.route_events.specs.Alternatives.{alternatives_of, newest_age, is_fresh, left_by, live}
-use Rattle.route_events.specs.Records.{ConnectionRecord}
 use Rattle.route_events.specs.Authority.{gives, is_success, is_upheld, record_of, authorises, is_authoritative}
-use Rattle.route_events.specs.Backoff.{Failures, is_on, is_attempt_on, opens_well, failed_at, no_failures, failures_after, failures}
-use Rattle.route_events.specs.Routes.{is_arrival, ends_on, was_tried}
+use Rattle.route_events.specs.Backoff.{is_on, is_attempt_on, failed_at, no_failures, failures_after, failures}
+use Rattle.route_events.specs.Routes.{is_arrival, was_tried}
 
 -- the second journal is the first, but that inputs have other octets, and that some of the first are not in it: those that
 -- came at the moment of what was below them, where no value can be taken any more that is older
@@ -54,7 +53,7 @@ age_same (Pieces moment conn a b handed_in p) = refl
 age_same (Further moment conn a handed_in at old p) = sym old ∙ age_same p
 
 -- a reading of entries that says nothing of inputs
-newest_same : {X : Type 0} {j k : Journal} (read : Entry → Option X) → ((m c : ℕ) (b : List ℕ) (h : Bool) → read (Happened m (Input c b) h) ≡ None) → Pieced j k → newest read j ≡ newest read k
+pub newest_same : {X : Type 0} {j k : Journal} (read : Entry → Option X) → ((m c : ℕ) (b : List ℕ) (h : Bool) → read (Happened m (Input c b) h) ≡ None) → Pieced j k → newest read j ≡ newest read k
 newest_same read none Begun = refl
 newest_same read none (Both entry p) = ap (option_map_or Some (read entry)) (newest_same read none p)
 newest_same read none (Pieces {older} {other} m c a b h p) =
@@ -88,7 +87,7 @@ ended_same p n = any_same (ends n) (λ m c b h. refl) p
 pub pending_same : {j k : Journal} → Pieced j k → pending j ≡ pending k
 pending_same p = λ i. filter (λ (a : Attempt). not (ended_same p a.number i)) (attempts_same p i)
 
-pending_attempt_same : {j k : Journal} → Pieced j k → (n : ℕ) → pending_attempt j n ≡ pending_attempt k n
+pub pending_attempt_same : {j k : Journal} → Pieced j k → (n : ℕ) → pending_attempt j n ≡ pending_attempt k n
 pending_attempt_same p n = ap (find (λ (a : Attempt). nat_eq a.number n)) (pending_same p)
 
 requests_same : {j k : Journal} → Pieced j k → requests j ≡ requests k
@@ -97,7 +96,7 @@ requests_same p = readings_same (λ older. of_fact request_in) (λ i m c b h. re
 pub request_of_same : {j k : Journal} → Pieced j k → (n : ℕ) → request_of j n ≡ request_of k n
 request_of_same p n = ap (find (λ (q : Request). nat_eq q.number n)) (requests_same p)
 
-standing_same : {j k : Journal} → Pieced j k → (n : ℕ) → standing j n ≡ standing k n
+pub standing_same : {j k : Journal} → Pieced j k → (n : ℕ) → standing j n ≡ standing k n
 standing_same p n = newest_same _ (λ m c b h. refl) p
 
 pub waiting_same : {j k : Journal} → Pieced j k → waiting j ≡ waiting k

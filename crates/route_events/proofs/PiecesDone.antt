@@ -1,5 +1,5 @@
 -- What is done over two journals that differ in how octets were cut into inputs is the same.
-use Rattle.std.proofs.Common.{◌≡◌, subst, ℕ, ◌+◌, Bool, true, false, cond, not, ◌&&◌, ◌||◌, nat_eq, List, [], ◌∷◌, ◌++◌, map, length, Option, Some, None, Result, Ok, Err, filter, find, refl, ap, sym, ◌∙◌}
+use Rattle.std.proofs.Common.{◌≡◌, subst, ℕ, ◌+◌, Bool, true, false, cond, not, ◌&&◌, ◌||◌, nat_eq, List, [], ◌∷◌, ◌++◌, map, length, Option, Some, None, Result, Ok, Err, filter, find, refl, ap, ◌∙◌}
 use Rattle.std.specs.Option.{option_map, option_and_then, option_map_or}
 use Rattle.std.specs.List.{list_any}
 use Rattle.alt_base.specs.declared.refusal.At.{At}
@@ -18,20 +18,20 @@ use Rattle.route_events.specs.declared.route.Route.TheVariants.{Direct}
 use Rattle.route_events.specs.declared.request.Request.{Request}
 use Rattle.route_events.specs.declared.connection.Connection.{Connection}
 use Rattle.route_events.specs.Journal.{Entry, Happened, Cut, Taken, Journal}
-use Rattle.route_events.specs.Requests.{SentTo, request_of, waiting}
+use Rattle.route_events.specs.Requests.{SentTo, waiting}
 use Rattle.route_events.specs.Connections.{is_https, is_tls, is_http11, is_none_out}
 use Rattle.route_events.specs.Authority.{route_eq, rests_on}
 use Rattle.route_events.specs.Backoff.{is_on, is_barred_by}
 use Rattle.route_events.specs.Routes.{by_alternatives, usable_routes, has_pending}
 use Rattle.route_events.specs.Dispatch.{carriers, free_carriers, first_of, or_else, is_by_alternative, best, stream_after, alt_used, send, opened_beside, first_alternative, decide, dispatch}
-use Rattle.route_events.specs.FrameAdvertisements.{is_sent_on, request_on, spoken_for, value_action, reading_action, altsvc_action, origin_action, frame_action, frame_effects}
+use Rattle.route_events.specs.FrameAdvertisements.{request_on, spoken_for, value_action, reading_action, origin_action, frame_action, frame_effects}
 use Rattle.route_events.specs.Step.{with_actions, part_effects, with_part, settle, settled, follow, actions}
 use Rattle.route_events.proofs.Parts.{IsBehind, AreBehind}
-use Rattle.route_events.proofs.Pieces.{Pieced, Begun, Both, Pieces, Further, attempts_same, pending_same, request_of_same, waiting_same, sent_to_same, connections_same, open_same, open_connections_same, open_connection_same, outstanding_same, sends_same, live_same, record_same, authority_same, failures_same, tried_same}
+use Rattle.route_events.proofs.Pieces.{Pieced, Begun, Both, Pieces, Further, attempts_same, pending_same, request_of_same, waiting_same, sent_to_same, connections_same, open_connections_same, open_connection_same, outstanding_same, sends_same, live_same, record_same, authority_same, failures_same, tried_same}
 
 -- dispatch
 
-carriers_same : {j k : Journal} → Pieced j k → (o : Origin) (now : ℕ) → carriers j o now ≡ carriers k o now
+pub carriers_same : {j k : Journal} → Pieced j k → (o : Origin) (now : ℕ) → carriers j o now ≡ carriers k o now
 carriers_same p o now = λ i. filter (λ c. authority_same p c o now i) (connections_same p i)
 
 free_same : {j k : Journal} → Pieced j k → (o : Origin) (now : ℕ) → free_carriers j o now ≡ free_carriers k o now
@@ -78,7 +78,7 @@ dispatch_same {j} {k} p q now =
 
 -- settling
 
-with_same : {j k : Journal} → Pieced j k → (as' : List Action) → Pieced (with_actions j as') (with_actions k as')
+pub with_same : {j k : Journal} → Pieced j k → (as' : List Action) → Pieced (with_actions j as') (with_actions k as')
 with_same p [] = p
 with_same p (a ∷ as') = with_same (Both (Taken a) p) as'
 
@@ -114,7 +114,7 @@ action_same p now head payload c = λ i.
     cond (nat_eq head.kind 10) (cond (not (is_tls c)) (Ignored c.number 10 10 0) (reading_same p now c head.stream (read_frame head.stream payload) i) ∷ [])
     (cond (nat_eq head.kind 12) (origin_action c head payload ∷ []) [])
 
-frame_same : {j k : Journal} → Pieced j k → (now conn : ℕ) (head : Head) (payload : List ℕ) → frame_effects j now conn head payload ≡ frame_effects k now conn head payload
+pub frame_same : {j k : Journal} → Pieced j k → (now conn : ℕ) (head : Head) (payload : List ℕ) → frame_effects j now conn head payload ≡ frame_effects k now conn head payload
 frame_same p now conn head payload = λ i. option_map_or (λ c. action_same p now head payload c i) (open_connection_same p conn i) []
 
 effects_same : {j k : Journal} → Pieced j k → (now conn : ℕ) (part : Entry) → IsBehind now conn part → part_effects j now part ≡ part_effects k now part

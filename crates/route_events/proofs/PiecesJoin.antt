@@ -1,181 +1,28 @@
 -- How octets are cut into inputs changes no action.
-use Rattle.std.proofs.Common.{◌≡◌, ℕ, Bool, true, false, cond, not, ◌||◌, nat_eq, List, [], ◌∷◌, ◌++◌, drop, length, Option, Some, None, is_some, filter, find, refl, ap, sym, ◌∙◌, subst, append_assoc, true≢false}
-use Rattle.std.specs.List.{list_any, flat_map}
+use Rattle.std.proofs.Common.{◌≡◌, ◌≤◌, ℕ, ◌+◌, Bool, true, false, cond, nat_eq, List, [], ◌∷◌, ◌++◌, drop, length, None, refl, ap, sym, ◌∙◌, subst, arith, append_assoc}
 use Rattle.std.proofs.lemmas.List.{append-nil}
-use Rattle.std.proofs.lemmas.Grind.{flat_map-append}
-use Rattle.std.proofs.lemmas.Bool.{or_left, not-true}
-use Rattle.alt_base.proofs.Numbers.{eq_self}
-use Rattle.alt_base.proofs.Booleans.{contradicts}
-use Rattle.h2_framing.specs.declared.frame.Frame.{Frame}
-use Rattle.h2_framing.specs.Streams.{frames_of, rest_of, too_large_of}
-use Rattle.h2_framing.proofs.Splitting.{split_some, goes_on}
+use Rattle.h2_framing.specs.Streams.{too_large_of}
 use Rattle.route_events.specs.declared.fact.Fact.{Fact}
 use Rattle.route_events.specs.declared.fact.Fact.TheVariants.{Input, Delivered}
-use Rattle.route_events.specs.declared.fact.Fact.TheVariants as fact
 use Rattle.route_events.specs.declared.action.Action.{Action}
-use Rattle.route_events.specs.declared.connection.Connection.{Connection}
 use Rattle.route_events.specs.declared.request.Request.{Request}
-use Rattle.route_events.specs.Journal.{Entry, Happened, Cut, Taken, Journal, newest_moment}
+use Rattle.route_events.specs.Journal.{Entry, Happened, Cut, Taken, Journal, newest_moment, step_count}
 use Rattle.route_events.specs.Attempts.{has_ended}
 use Rattle.route_events.specs.Requests.{waiting}
-use Rattle.route_events.specs.Connections.{connections, closes, is_open, is_open_number}
 use Rattle.route_events.specs.Alternatives.{newest_age}
 use Rattle.route_events.specs.Dispatch.{dispatch}
-use Rattle.route_events.specs.Frames.{octets_on, frames_behind, delivery, cut_by, deliveries}
-use Rattle.route_events.specs.Step.{IsRun, refusal, with_actions, effects, part_effects, with_part, with_fact, settle, settled, parts_of, follow, with_answer, step, newest_actions, actions}
-use Rattle.route_events.proofs.Lists.{in_filter}
+use Rattle.route_events.specs.Frames.{octets_on, deliveries}
+use Rattle.route_events.specs.Step.{IsRun, refusal, with_actions, part_effects, with_part, with_fact, settle, settled, follow, step, run, newest_actions, actions}
 use Rattle.route_events.proofs.Quiet.{Quiet, rests_still}
 use Rattle.route_events.proofs.Settles.{settle_nothing}
-use Rattle.route_events.proofs.Sound.{used_of, input_open, opened_of}
+use Rattle.route_events.proofs.Sound.{used_of, input_open}
 use Rattle.route_events.proofs.Parts.{IsBehind, AreBehind, all_behind, ended_part}
 use Rattle.route_events.proofs.Runs.{IsSettled, fact_is, follow_is, each}
+use Rattle.route_events.proofs.Deliveries.{drop_front, deliveries_both}
+use Rattle.route_events.proofs.PartsKeep.{follow_append, octets_settled, octets_follow, octets_input, octets_step, moment_settled, moment_follow, age_settled, age_follow, never_cut, open_unclosed}
 use Rattle.route_events.proofs.Pieces.{Pieced, Pieces, Further, pieced_same}
 use Rattle.route_events.proofs.PiecesDone.{settled_same, follow_same, actions_same}
-
--- frames of more octets
-
-drop_front : {X : Type 0} (xs ys : List X) → drop (length xs) (xs ++ ys) ≡ ys
-drop_front [] ys = refl
-drop_front (x ∷ xs) ys = drop_front xs ys
-
--- more octets only add frames
-pub frames_more : (x b : List ℕ) → frames_of (x ++ b) ≡ frames_of x ++ frames_behind x b
-frames_more x b =
-    let rest : List ℕ = rest_of x ++ b in
-    let goes : frames_of (x ++ b) ≡ frames_of x ++ frames_of (rest_of x ++ b) = (goes_on x b (frames_of (rest_of x ++ b)) (rest_of (rest_of x ++ b)) (too_large_of (rest_of x ++ b)) (split_some (rest_of x ++ b)).frames (split_some (rest_of x ++ b)).end).frames_are in
-    goes ∙ ap (λ (fs : List Frame). frames_of x ++ fs) (sym (ap (drop (length (frames_of x))) goes ∙ drop_front (frames_of x) (frames_of (rest_of x ++ b))))
-
--- what two pieces end
-frames_both : (x a b : List ℕ) → frames_behind x (a ++ b) ≡ frames_behind x a ++ frames_behind (x ++ a) b
-frames_both x a b =
-    let whole : frames_of (x ++ (a ++ b)) ≡ frames_of x ++ (frames_behind x a ++ frames_behind (x ++ a) b) =
-    ap frames_of (sym (append_assoc x a b)) ∙ frames_more (x ++ a) b ∙ ap (λ (fs : List Frame). fs ++ frames_behind (x ++ a) b) (frames_more x a)
-    ∙ append_assoc (frames_of x) (frames_behind x a) (frames_behind (x ++ a) b) in
-    ap (drop (length (frames_of x))) whole ∙ drop_front (frames_of x) (frames_behind x a ++ frames_behind (x ++ a) b)
-
--- where the first piece isn't cut, the parts of both are those of one
-deliveries_both : (now conn : ℕ) (x a b : List ℕ) → too_large_of (x ++ a) ≡ None → deliveries now conn x (a ++ b) ≡ deliveries now conn x a ++ deliveries now conn (x ++ a) b
-deliveries_both now conn x a b going =
-    let first : List Entry = flat_map (delivery now conn) (frames_behind x a) in
-    let second : List Entry = flat_map (delivery now conn) (frames_behind (x ++ a) b) in
-    let last : List Entry = cut_by now conn (too_large_of ((x ++ a) ++ b)) in
-    let left : deliveries now conn x (a ++ b) ≡ (flat_map (delivery now conn) (frames_behind x a) ++ flat_map (delivery now conn) (frames_behind (x ++ a) b)) ++ cut_by now conn (too_large_of ((x ++ a) ++ b)) =
-    ap (λ (fs : List Frame). flat_map (delivery now conn) fs ++ cut_by now conn (too_large_of (x ++ (a ++ b)))) (frames_both x a b)
-    ∙ ap (λ (es : List Entry). es ++ cut_by now conn (too_large_of (x ++ (a ++ b)))) (flat_map-append (delivery now conn) (frames_behind x a) (frames_behind (x ++ a) b))
-    ∙ ap (λ (y : List ℕ). (flat_map (delivery now conn) (frames_behind x a) ++ flat_map (delivery now conn) (frames_behind (x ++ a) b)) ++ cut_by now conn (too_large_of y)) (sym (append_assoc x a b)) in
-    let uncut : deliveries now conn x a ≡ flat_map (delivery now conn) (frames_behind x a) =
-    ap (λ w. flat_map (delivery now conn) (frames_behind x a) ++ cut_by now conn w) going ∙ append-nil (flat_map (delivery now conn) (frames_behind x a)) in
-    left ∙ append_assoc first second last ∙ ap (λ (es : List Entry). es ++ (second ++ last)) (sym uncut)
-
--- what parts leave as it is
-
-follow_append : (j : Journal) (now : ℕ) (parts more : List Entry) → follow j now (parts ++ more) ≡ follow (follow j now parts) now more
-follow_append j now [] more = refl
-follow_append j now (part ∷ parts) more = follow_append (settled (with_part j now part) now) now parts more
-
--- octets
-pub octets_with : (j : Journal) (as' : List Action) (c : ℕ) → octets_on (with_actions j as') c ≡ octets_on j c
-octets_with j [] c = refl
-octets_with j (a ∷ as') c = octets_with (Taken a ∷ j) as' c
-
-octets_settle : (j : Journal) (now : ℕ) (qs : List Request) (c : ℕ) → octets_on (settle j now qs) c ≡ octets_on j c
-octets_settle j now [] c = refl
-octets_settle j now (q ∷ qs) c = octets_settle (with_actions j (dispatch j q now)) now qs c ∙ octets_with j (dispatch j q now) c
-
-pub octets_settled : (j : Journal) (now : ℕ) (part : Entry) (c : ℕ) → octets_on (settled (with_part j now part) now) c ≡ octets_on (part ∷ j) c
-octets_settled j now part c = octets_settle (with_part j now part) now (waiting (with_part j now part)) c ∙ octets_with (part ∷ j) (part_effects j now part) c
-
-octets_behind : (j : Journal) (now conn : ℕ) (part : Entry) (c : ℕ) → IsBehind now conn part → octets_on (part ∷ j) c ≡ octets_on j c
-octets_behind j now conn (Happened moment (Delivered to head payload) false) c behind = refl
-octets_behind j now conn (Cut moment to count) c behind = refl
-octets_behind j now conn _ c behind = absurd behind
-
-pub octets_follow : (j : Journal) (now conn : ℕ) (parts : List Entry) (c : ℕ) → AreBehind now conn parts → octets_on (follow j now parts) c ≡ octets_on j c
-octets_follow j now conn [] c behind = refl
-octets_follow j now conn (part ∷ parts) c behind =
-    octets_follow (settled (with_part j now part) now) now conn parts c behind.1 ∙ octets_settled j now part c ∙ octets_behind j now conn part c behind.0
-
-octets_input : (j : Journal) (now c : ℕ) (a : List ℕ) → octets_on (Happened now (Input c a) true ∷ j) c ≡ octets_on j c ++ a
-octets_input j now c a = ap (λ b. cond b (octets_on j c ++ a) (octets_on j c)) (eq_self c)
-
--- the moment
-moment_with : (j : Journal) (as' : List Action) → newest_moment (with_actions j as') ≡ newest_moment j
-moment_with j [] = refl
-moment_with j (a ∷ as') = moment_with (Taken a ∷ j) as'
-
-moment_settle : (j : Journal) (now : ℕ) (qs : List Request) → newest_moment (settle j now qs) ≡ newest_moment j
-moment_settle j now [] = refl
-moment_settle j now (q ∷ qs) = moment_settle (with_actions j (dispatch j q now)) now qs ∙ moment_with j (dispatch j q now)
-
-moment_settled : (j : Journal) (now : ℕ) (part : Entry) → newest_moment (settled (with_part j now part) now) ≡ newest_moment (part ∷ j)
-moment_settled j now part = moment_settle (with_part j now part) now (waiting (with_part j now part)) ∙ moment_with (part ∷ j) (part_effects j now part)
-
-moment_behind : (j : Journal) (now conn : ℕ) (part : Entry) → IsBehind now conn part → newest_moment (part ∷ j) ≡ now
-moment_behind j now conn (Happened moment (Delivered to head payload) false) behind = behind.0
-moment_behind j now conn (Cut moment to count) behind = behind.0
-moment_behind j now conn _ behind = absurd behind
-
-moment_follow : (j : Journal) (now conn : ℕ) (parts : List Entry) → AreBehind now conn parts → newest_moment j ≡ now → newest_moment (follow j now parts) ≡ now
-moment_follow j now conn [] behind at = at
-moment_follow j now conn (part ∷ parts) behind at =
-    moment_follow (settled (with_part j now part) now) now conn parts behind.1 (moment_settled j now part ∙ moment_behind j now conn part behind.0)
-
--- the age of a value
-age_with : (j : Journal) (as' : List Action) → newest_age (with_actions j as') ≡ newest_age j
-age_with j [] = refl
-age_with j (a ∷ as') = age_with (Taken a ∷ j) as'
-
-age_settle : (j : Journal) (now : ℕ) (qs : List Request) → newest_age (settle j now qs) ≡ newest_age j
-age_settle j now [] = refl
-age_settle j now (q ∷ qs) = age_settle (with_actions j (dispatch j q now)) now qs ∙ age_with j (dispatch j q now)
-
-age_settled : (j : Journal) (now : ℕ) (part : Entry) → newest_age (settled (with_part j now part) now) ≡ newest_age (part ∷ j)
-age_settled j now part = age_settle (with_part j now part) now (waiting (with_part j now part)) ∙ age_with (part ∷ j) (part_effects j now part)
-
-age_behind : (j : Journal) (now conn : ℕ) (part : Entry) → IsBehind now conn part → newest_age j ≡ 0 → newest_age (part ∷ j) ≡ 0
-age_behind j now conn (Happened moment (Delivered to head payload) false) behind none = refl
-age_behind j now conn (Cut moment to count) behind none = none
-age_behind j now conn _ behind none = absurd behind
-
-age_follow : (j : Journal) (now conn : ℕ) (parts : List Entry) → AreBehind now conn parts → newest_age j ≡ 0 → newest_age (follow j now parts) ≡ 0
-age_follow j now conn [] behind none = none
-age_follow j now conn (part ∷ parts) behind none =
-    age_follow (settled (with_part j now part) now) now conn parts behind.1 (age_settled j now part ∙ age_behind j now conn part behind.0 none)
-
--- a connection that was closed stays closed
-pub closed_with : (j : Journal) (as' : List Action) (n : ℕ) → list_any (closes n) j ≡ true → list_any (closes n) (with_actions j as') ≡ true
-closed_with j [] n h = h
-closed_with j (a ∷ as') n h = closed_with (Taken a ∷ j) as' n h
-
-pub closed_settle : (j : Journal) (now : ℕ) (qs : List Request) (n : ℕ) → list_any (closes n) j ≡ true → list_any (closes n) (settle j now qs) ≡ true
-closed_settle j now [] n h = h
-closed_settle j now (q ∷ qs) n h = closed_settle (with_actions j (dispatch j q now)) now qs n (closed_with j (dispatch j q now) n h)
-
--- once its octets were cut, a connection isn't open
-cut_closed : (j : Journal) (now c count : ℕ) → list_any (closes c) (settled (with_part j now (Cut now c count)) now) ≡ true
-cut_closed j now c count =
-    let k : Journal = with_part j now (Cut now c count) in
-    closed_settle k now (waiting k) c (closed_with (Cut now c count ∷ j) (part_effects j now (Cut now c count)) c (or_left (nat_eq c c) (list_any (closes c) j) (eq_self c)))
-
--- a connection that isn't closed behind the parts of octets wasn't cut by them
-pub never_cut : (j : Journal) (now c : ℕ) (x a : List ℕ) → list_any (closes c) (follow j now (deliveries now c x a)) ≡ false → too_large_of (x ++ a) ≡ None
-never_cut j now c x a going = by_cut (too_large_of (x ++ a)) refl
-  where
-    by_cut : (w : Option ℕ) → too_large_of (x ++ a) ≡ w → w ≡ None
-    by_cut None e = refl
-    by_cut (Some count) e =
-        let k : Journal = follow j now (flat_map (delivery now c) (frames_behind x a)) in
-        let last : follow j now (deliveries now c x a) ≡ settled (with_part (follow j now (flat_map (delivery now c) (frames_behind x a))) now (Cut now c count)) now =
-        ap (λ w. follow j now (flat_map (delivery now c) (frames_behind x a) ++ cut_by now c w)) e ∙ follow_append j now (flat_map (delivery now c) (frames_behind x a)) (Cut now c count ∷ []) in
-        contradicts (list_any (closes c) (follow j now (deliveries now c x a))) (ap (list_any (closes c)) last ∙ cut_closed k now c count) going
-
--- what is open isn't closed
-open_unclosed : (j : Journal) (c : ℕ) → is_open_number j c ≡ true → list_any (closes c) j ≡ false
-open_unclosed j c open_now =
-    let is = opened_of j c open_now in
-    subst (λ n. list_any (closes n) j ≡ false) is.numbered (not-true (list_any (closes is.connection.number) j) (in_filter (is_open j) is.connection (connections j) is.there).1)
-
--- the law
+use Rattle.route_events.proofs.PiecesLater.{steps_step, runs_same}
 
 quiet_input : (j : Journal) (now c : ℕ) (bytes : List ℕ) → newest_moment j ≡ now → Quiet j (Happened now (Input c bytes) true ∷ j) now
 quiet_input j now c bytes at = record {
@@ -265,3 +112,24 @@ pieces_join j t c a b is free_a free_b =
     let two : actions (step (step j t (Input c a)) t (Input c b)) ≡ actions j ++ (newest_actions (step j t (Input c a)) ++ newest_actions (step (step j t (Input c a)) t (Input c b))) =
     input_adds k t c b ∙ ap (λ (as' : List Action). as' ++ newest_actions (step k t (Input c b))) (input_adds j t c a) ∙ append_assoc (actions j) (newest_actions k) (newest_actions (step k t (Input c b))) in
     cancel_front (actions j) _ _ (sym two ∙ same ∙ input_adds j t c (a ++ b))
+
+-- and from then on all actions are the same, while the steps last
+pub pieces_later : (j : Journal) (t c : ℕ) (a b : List ℕ) (events : List (ℕ × Fact)) → IsRun j → refusal j t (Input c a) ≡ None → refusal (step j t (Input c a)) t (Input c b) ≡ None →
+    step_count j + 2 + length events ≤ 16777215 → actions (run (step (step j t (Input c a)) t (Input c b)) events) ≡ actions (run (step j t (Input c (a ++ b))) events)
+pieces_later j t c a b events is free_a free_b few =
+    let k : Journal = step j t (Input c a) in
+    let two : Journal = step k t (Input c b) in
+    let one : Journal = step j t (Input c (a ++ b)) in
+    runs_same two one events (record { pieced = pieces_pieced j t c a b (each is) free_a free_b; octets = octets })
+    (omega (arith, few, steps_step k t (Input c b), steps_step j t (Input c a))) (omega (arith, steps_step k t (Input c b), steps_step j t (Input c a), steps_step j t (Input c (a ++ b))))
+  where
+    by_number : (b' : Bool) (n : ℕ) → cond b' (cond b' (octets_on j n ++ a) (octets_on j n) ++ b) (cond b' (octets_on j n ++ a) (octets_on j n)) ≡ cond b' (octets_on j n ++ (a ++ b)) (octets_on j n)
+    by_number true n = append_assoc (octets_on j n) a b
+    by_number false n = refl
+
+    octets : (n : ℕ) → octets_on (step (step j t (Input c a)) t (Input c b)) n ≡ octets_on (step j t (Input c (a ++ b))) n
+    octets n =
+        octets_step (step j t (Input c a)) t (Input c b) n
+        ∙ ap (λ (x : List ℕ). cond (nat_eq c n) (x ++ b) x) (octets_step j t (Input c a) n)
+        ∙ by_number (nat_eq c n) n
+        ∙ sym (octets_step j t (Input c (a ++ b)) n)

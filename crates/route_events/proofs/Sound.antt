@@ -174,102 +174,25 @@ sound_lost j q sound = record {
 
 -- what a value of alternatives changes is none of this
 pub sound_alternatives : (j : Journal) (o : Origin) (value : AltSvc) → Sound j → Sound (Taken (Alternatives o value) ∷ j)
-sound_alternatives j o value sound = record {
-  counted = sound.counted;
-  not_ended = sound.not_ended;
-  attempts_apart = sound.attempts_apart;
-  requests_apart = sound.requests_apart;
-  newest = sound.newest;
-  connections_apart = sound.connections_apart;
-  ended = sound.ended;
-  out_stands = sound.out_stands;
-  out_known = sound.out_known;
-  unused = sound.unused;
-}
+sound_alternatives j o value sound = record { counted = sound.counted; not_ended = sound.not_ended; attempts_apart = sound.attempts_apart; requests_apart = sound.requests_apart; newest = sound.newest; connections_apart = sound.connections_apart; ended = sound.ended; out_stands = sound.out_stands; out_known = sound.out_known; unused = sound.unused }
 
 pub sound_retry : (j : Journal) (q : ℕ) → Sound j → Sound (Taken (Retry q) ∷ j)
-sound_retry j q sound = record {
-  counted = sound.counted;
-  not_ended = sound.not_ended;
-  attempts_apart = sound.attempts_apart;
-  requests_apart = sound.requests_apart;
-  newest = sound.newest;
-  connections_apart = sound.connections_apart;
-  ended = sound.ended;
-  out_stands = sound.out_stands;
-  out_known = sound.out_known;
-  unused = sound.unused;
-}
+sound_retry j q sound = record { counted = sound.counted; not_ended = sound.not_ended; attempts_apart = sound.attempts_apart; requests_apart = sound.requests_apart; newest = sound.newest; connections_apart = sound.connections_apart; ended = sound.ended; out_stands = sound.out_stands; out_known = sound.out_known; unused = sound.unused }
 
 pub sound_field : (j : Journal) (q reason place : ℕ) → Sound j → Sound (Taken (Field q reason place) ∷ j)
-sound_field j q reason place sound = record {
-  counted = sound.counted;
-  not_ended = sound.not_ended;
-  attempts_apart = sound.attempts_apart;
-  requests_apart = sound.requests_apart;
-  newest = sound.newest;
-  connections_apart = sound.connections_apart;
-  ended = sound.ended;
-  out_stands = sound.out_stands;
-  out_known = sound.out_known;
-  unused = sound.unused;
-}
+sound_field j q reason place sound = record { counted = sound.counted; not_ended = sound.not_ended; attempts_apart = sound.attempts_apart; requests_apart = sound.requests_apart; newest = sound.newest; connections_apart = sound.connections_apart; ended = sound.ended; out_stands = sound.out_stands; out_known = sound.out_known; unused = sound.unused }
 
 pub sound_close : (j : Journal) (c count : ℕ) → Sound j → Sound (Taken (Close c count) ∷ j)
-sound_close j c count sound = record {
-  counted = sound.counted;
-  not_ended = sound.not_ended;
-  attempts_apart = sound.attempts_apart;
-  requests_apart = sound.requests_apart;
-  newest = sound.newest;
-  connections_apart = sound.connections_apart;
-  ended = sound.ended;
-  out_stands = sound.out_stands;
-  out_known = sound.out_known;
-  unused = sound.unused;
-}
+sound_close j c count sound = record { counted = sound.counted; not_ended = sound.not_ended; attempts_apart = sound.attempts_apart; requests_apart = sound.requests_apart; newest = sound.newest; connections_apart = sound.connections_apart; ended = sound.ended; out_stands = sound.out_stands; out_known = sound.out_known; unused = sound.unused }
 
 pub sound_ignored : (j : Journal) (c kind reason place : ℕ) → Sound j → Sound (Taken (Ignored c kind reason place) ∷ j)
-sound_ignored j c kind reason place sound = record {
-  counted = sound.counted;
-  not_ended = sound.not_ended;
-  attempts_apart = sound.attempts_apart;
-  requests_apart = sound.requests_apart;
-  newest = sound.newest;
-  connections_apart = sound.connections_apart;
-  ended = sound.ended;
-  out_stands = sound.out_stands;
-  out_known = sound.out_known;
-  unused = sound.unused;
-}
+sound_ignored j c kind reason place sound = record { counted = sound.counted; not_ended = sound.not_ended; attempts_apart = sound.attempts_apart; requests_apart = sound.requests_apart; newest = sound.newest; connections_apart = sound.connections_apart; ended = sound.ended; out_stands = sound.out_stands; out_known = sound.out_known; unused = sound.unused }
 
 pub sound_origins : (j : Journal) (c taken skipped : ℕ) → Sound j → Sound (Taken (Origins c taken skipped) ∷ j)
-sound_origins j c taken skipped sound = record {
-  counted = sound.counted;
-  not_ended = sound.not_ended;
-  attempts_apart = sound.attempts_apart;
-  requests_apart = sound.requests_apart;
-  newest = sound.newest;
-  connections_apart = sound.connections_apart;
-  ended = sound.ended;
-  out_stands = sound.out_stands;
-  out_known = sound.out_known;
-  unused = sound.unused;
-}
+sound_origins j c taken skipped sound = record { counted = sound.counted; not_ended = sound.not_ended; attempts_apart = sound.attempts_apart; requests_apart = sound.requests_apart; newest = sound.newest; connections_apart = sound.connections_apart; ended = sound.ended; out_stands = sound.out_stands; out_known = sound.out_known; unused = sound.unused }
 
 pub sound_told : (j : Journal) (o : Origin) (cs : List ℕ) → Sound j → Sound (Taken (Who o cs) ∷ j)
-sound_told j o cs sound = record {
-  counted = sound.counted;
-  not_ended = sound.not_ended;
-  attempts_apart = sound.attempts_apart;
-  requests_apart = sound.requests_apart;
-  newest = sound.newest;
-  connections_apart = sound.connections_apart;
-  ended = sound.ended;
-  out_stands = sound.out_stands;
-  out_known = sound.out_known;
-  unused = sound.unused;
-}
+sound_told j o cs sound = record { counted = sound.counted; not_ended = sound.not_ended; attempts_apart = sound.attempts_apart; requests_apart = sound.requests_apart; newest = sound.newest; connections_apart = sound.connections_apart; ended = sound.ended; out_stands = sound.out_stands; out_known = sound.out_known; unused = sound.unused }
 
 -- facts
 
@@ -439,32 +362,10 @@ closed_unused j c used sound n h = by_test (nat_eq c n) refl
     by_test true e = contradicts (has_ended j c) used (ap (has_ended j) (true_eq c n e) ∙ h)
 
 pub sound_closed : (j : Journal) (now c : ℕ) (handed_in : Bool) → is_open_number j c ≡ true → Sound j → Sound (Happened now (fact.Closed c) handed_in ∷ j)
-sound_closed j now c handed_in is_open_now sound = record {
-  counted = sound.counted;
-  not_ended = sound.not_ended;
-  attempts_apart = sound.attempts_apart;
-  requests_apart = sound.requests_apart;
-  newest = sound.newest;
-  connections_apart = sound.connections_apart;
-  ended = sound.ended;
-  out_stands = sound.out_stands;
-  out_known = sound.out_known;
-  unused = λ n h. ((sound.unused n h).0, (sound.unused n h).1, closed_unused j c (used_of j c is_open_now sound) sound n h);
-}
+sound_closed j now c handed_in is_open_now sound = record { counted = sound.counted; not_ended = sound.not_ended; attempts_apart = sound.attempts_apart; requests_apart = sound.requests_apart; newest = sound.newest; connections_apart = sound.connections_apart; ended = sound.ended; out_stands = sound.out_stands; out_known = sound.out_known; unused = λ n h. ((sound.unused n h).0, (sound.unused n h).1, closed_unused j c (used_of j c is_open_now sound) sound n h) }
 
 pub sound_cut : (j : Journal) (now c count : ℕ) → has_ended j c ≡ true → Sound j → Sound (Cut now c count ∷ j)
-sound_cut j now c count used sound = record {
-  counted = sound.counted;
-  not_ended = sound.not_ended;
-  attempts_apart = sound.attempts_apart;
-  requests_apart = sound.requests_apart;
-  newest = sound.newest;
-  connections_apart = sound.connections_apart;
-  ended = sound.ended;
-  out_stands = sound.out_stands;
-  out_known = sound.out_known;
-  unused = λ n h. ((sound.unused n h).0, (sound.unused n h).1, closed_unused j c used sound n h);
-}
+sound_cut j now c count used sound = record { counted = sound.counted; not_ended = sound.not_ended; attempts_apart = sound.attempts_apart; requests_apart = sound.requests_apart; newest = sound.newest; connections_apart = sound.connections_apart; ended = sound.ended; out_stands = sound.out_stands; out_known = sound.out_known; unused = λ n h. ((sound.unused n h).0, (sound.unused n h).1, closed_unused j c used sound n h) }
 
 -- a request that is answered isn't outstanding any more
 pub sound_response : (j : Journal) (now q status age : ℕ) (altsvc : Option (List ℕ)) (handed_in : Bool) → Sound j → Sound (Happened now (fact.Response q status age altsvc) handed_in ∷ j)
@@ -484,46 +385,13 @@ sound_response j now q status age altsvc handed_in sound =
     }
 
 pub sound_input : (j : Journal) (now : ℕ) (c : ℕ) (bytes : List ℕ) (handed_in : Bool) → Sound j → Sound (Happened now (fact.Input c bytes) handed_in ∷ j)
-sound_input j now c bytes handed_in sound = record {
-  counted = sound.counted;
-  not_ended = sound.not_ended;
-  attempts_apart = sound.attempts_apart;
-  requests_apart = sound.requests_apart;
-  newest = sound.newest;
-  connections_apart = sound.connections_apart;
-  ended = sound.ended;
-  out_stands = sound.out_stands;
-  out_known = sound.out_known;
-  unused = sound.unused;
-}
+sound_input j now c bytes handed_in sound = record { counted = sound.counted; not_ended = sound.not_ended; attempts_apart = sound.attempts_apart; requests_apart = sound.requests_apart; newest = sound.newest; connections_apart = sound.connections_apart; ended = sound.ended; out_stands = sound.out_stands; out_known = sound.out_known; unused = sound.unused }
 
 pub sound_delivered : (j : Journal) (now : ℕ) (c : ℕ) (head : Head) (payload : List ℕ) (handed_in : Bool) → Sound j → Sound (Happened now (fact.Delivered c head payload) handed_in ∷ j)
-sound_delivered j now c head payload handed_in sound = record {
-  counted = sound.counted;
-  not_ended = sound.not_ended;
-  attempts_apart = sound.attempts_apart;
-  requests_apart = sound.requests_apart;
-  newest = sound.newest;
-  connections_apart = sound.connections_apart;
-  ended = sound.ended;
-  out_stands = sound.out_stands;
-  out_known = sound.out_known;
-  unused = sound.unused;
-}
+sound_delivered j now c head payload handed_in sound = record { counted = sound.counted; not_ended = sound.not_ended; attempts_apart = sound.attempts_apart; requests_apart = sound.requests_apart; newest = sound.newest; connections_apart = sound.connections_apart; ended = sound.ended; out_stands = sound.out_stands; out_known = sound.out_known; unused = sound.unused }
 
 pub sound_who : (j : Journal) (now : ℕ) (o : Origin) (handed_in : Bool) → Sound j → Sound (Happened now (fact.Who o) handed_in ∷ j)
-sound_who j now o handed_in sound = record {
-  counted = sound.counted;
-  not_ended = sound.not_ended;
-  attempts_apart = sound.attempts_apart;
-  requests_apart = sound.requests_apart;
-  newest = sound.newest;
-  connections_apart = sound.connections_apart;
-  ended = sound.ended;
-  out_stands = sound.out_stands;
-  out_known = sound.out_known;
-  unused = sound.unused;
-}
+sound_who j now o handed_in sound = record { counted = sound.counted; not_ended = sound.not_ended; attempts_apart = sound.attempts_apart; requests_apart = sound.requests_apart; newest = sound.newest; connections_apart = sound.connections_apart; ended = sound.ended; out_stands = sound.out_stands; out_known = sound.out_known; unused = sound.unused }
 
 -- each fact that isn't refused
 pub sound_fact : (j : Journal) (now : ℕ) (fact : Fact) → refusal j now fact ≡ None → Sound j → Sound (Happened now fact true ∷ j)

@@ -1,5 +1,5 @@
 -- The octets that came on a connection, and the frames that they end (RFC 9113 4.1).
-use Rattle.std.specs.Prelude.{ℕ, Bool, false, nat_eq, List, [], ◌∷◌, ◌++◌, length, drop, Option, Some, None, if◌then◌else◌}
+use Rattle.std.specs.Prelude.{ℕ, false, nat_eq, List, [], ◌∷◌, ◌++◌, length, drop, Option, Some, None, if◌then◌else◌}
 use Rattle.std.specs.List.{flat_map}
 use Rattle.h2_framing.specs.declared.frame.Frame.{Frame}
 use Rattle.h2_framing.specs.declared.frame.Frame.TheVariants.{Kept, Passed}

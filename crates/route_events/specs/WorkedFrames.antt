@@ -1,6 +1,5 @@
 -- Histories with frames (RFC 7838 4, RFC 8336), whose actions are computed.
 use Rattle.std.specs.Prelude.{ℕ, false, List, [], ◌∷◌, ◌++◌, Some, None, codes}
-use Rattle.h2_framing.specs.declared.head.Head.{Head}
 use Rattle.origin_values.specs.declared.host.Host.TheVariants.{Name}
 use Rattle.origin_values.specs.declared.scheme.Scheme.TheVariants.{Https}
 use Rattle.origin_values.specs.declared.origin.Origin.{Origin}

@@ -1,5 +1,5 @@
 //! Laws of the journal, stated over its definitions alone.
-ghost use Rattle.std.specs.Prelude.{◌≡◌, ◌↔◌, ℕ, true, false, List, [], ◌∷◌, ◌++◌, Some, None, All, Any};
+ghost use Rattle.std.specs.Prelude.{◌≡◌, ◌↔◌, ◌≤◌, ℕ, ◌+◌, length, true, false, List, [], ◌∷◌, ◌++◌, Some, None, All, Any};
 ghost use Rattle.std.specs.List.{list_any};
 ghost use Rattle.origin_values.specs.Equality.{origin_eq};
 ghost use Rattle.origin_values.specs.declared.origin.Origin.{Origin as OriginValue};
@@ -9,8 +9,8 @@ ghost use Rattle.route_events.specs.declared.connection.Connection.{Connection a
 ghost use Rattle.route_events.specs.declared.fact.Fact.{Fact as FactValue};
 ghost use Rattle.route_events.specs.declared.reach.Reach.{Reach as ReachValue};
 ghost use Rattle.route_events.specs.declared.route.Route.{Route as RouteValue};
-ghost use Rattle.route_events.specs.Journal.{Journal, Happened, Taken, newest_moment};
-ghost use Rattle.route_events.specs.Step.{step, run, refusal, newest_actions, IsRun, settled};
+ghost use Rattle.route_events.specs.Journal.{Journal, Happened, Taken, newest_moment, step_count};
+ghost use Rattle.route_events.specs.Step.{step, run, refusal, newest_actions, actions, IsRun, settled};
 ghost use Rattle.route_events.specs.Requests.{OutOn, standing};
 ghost use Rattle.route_events.specs.Connections.{open_connections, is_one_of, outstanding};
 ghost use Rattle.route_events.specs.Frames.{octets_on};
@@ -59,12 +59,16 @@ pub fn each_action()
 
 /// Only the octets that come on a connection and their moments matter, not how they are cut (RFC 9113 4.1): two inputs at
 /// one moment, with nothing between them and both taken, have together the actions of one input with both pieces, which is
-/// taken as well.
+/// taken as well; and whatever happens then, all actions are the same, while steps are left.
 pub fn pieces_join()
     ensures actions { (journal : Journal) (now conn : ℕ) (a b : List ℕ) → IsRun journal →
         refusal journal now (Fact.Input conn a) ≡ None → refusal (step journal now (Fact.Input conn a)) now (Fact.Input conn b) ≡ None →
         newest_actions (step journal now (Fact.Input conn a)) ++ newest_actions (step (step journal now (Fact.Input conn a)) now (Fact.Input conn b))
         ≡ newest_actions (step journal now (Fact.Input conn (a ++ b))) }
+    ensures later { (journal : Journal) (now conn : ℕ) (a b : List ℕ) (events : List (ℕ × FactValue)) → IsRun journal →
+        refusal journal now (Fact.Input conn a) ≡ None → refusal (step journal now (Fact.Input conn a)) now (Fact.Input conn b) ≡ None →
+        step_count journal + 2 + length events ≤ 16777215 →
+        actions (run (step (step journal now (Fact.Input conn a)) now (Fact.Input conn b)) events) ≡ actions (run (step journal now (Fact.Input conn (a ++ b))) events) }
     ensures taken { (journal : Journal) (now conn : ℕ) (a b : List ℕ) → refusal journal now (Fact.Input conn a) ≡ None → refusal journal now (Fact.Input conn (a ++ b)) ≡ None }
 {}
 
