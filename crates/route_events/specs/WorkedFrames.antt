@@ -113,3 +113,20 @@ frames_without_tls = (0, Request 1 plain_site) ∷ (1, Opened 1 H2 its_address 8
 
 abbrev pub none_taken : List Action
 none_taken = OpenTo 1 plain_site Direct ∷ Refuse 1 ∷ Ignored 1 10 10 0 ∷ Ignored 1 12 10 0 ∷ []
+
+-- each reason of payloads with its place: too short; an origin on a request's stream; a value that is none, at its place
+-- behind the two octets; then an ORIGIN frame that isn't on stream 0, one whose second entry passes the end, one whose only
+-- entry is skipped; and a value for an origin of http
+abbrev pub other_payloads : List (ℕ × Fact)
+other_payloads =
+    one_out
+    ++ ((2, Input 1 (short_head 1 10 0 0 ++ (0 ∷ [])))
+    ∷ (2, Input 1 (short_head 3 10 0 1 ++ (0 ∷ 1 ∷ 97 ∷ [])))
+    ∷ (2, Input 1 (short_head 13 10 0 1 ++ (0 ∷ 0 ∷ codes "h%32=\":443\"")))
+    ∷ (3, Input 1 (short_head 0 12 0 3 ++ short_head 4 12 0 0 ++ (0 ∷ 1 ∷ 97 ∷ 0 ∷ [])))
+    ∷ (3, Input 1 (short_head 3 12 0 0 ++ (0 ∷ 1 ∷ 97 ∷ [])))
+    ∷ (4, Input 1 (short_head 23 10 0 0 ++ (0 ∷ 16 ∷ codes "http://a.example" ++ codes "clear"))) ∷ [])
+
+abbrev pub each_with_its_reason : List Action
+each_with_its_reason =
+    first_sent ++ (Ignored 1 10 1 1 ∷ Ignored 1 10 4 0 ∷ Ignored 1 10 6 3 ∷ Ignored 1 12 1 0 ∷ Ignored 1 12 3 3 ∷ Origins 1 0 1 ∷ Ignored 1 10 9 0 ∷ [])

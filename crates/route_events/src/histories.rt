@@ -2,7 +2,7 @@ ghost use Rattle.std.specs.Prelude.{◌≡◌, [], ◌∷◌, ◌++◌, Some};
 ghost use Rattle.route_events.specs.Step.{run, actions, refusal};
 ghost use Rattle.route_events.specs.WorkedHistories.{site, two_requests, two_sends, closed_connection, both_lost, busy_connection, second_waits, failed_attempt, wrong_name, refused_then_opened, two_schemes, one_each, misdirected_request, turned_away};
 ghost use Rattle.route_events.specs.WorkedAlternatives.{first_sent, alternative_used, sent_by_alternative, alternative_stale, sent_directly, alternative_cleared, sent_elsewhere, network_changed, persistent_opened, alternative_failed, opened_again, alternative_misdirected, sent_again, no_value, plain_value, plain_ignored};
-ghost use Rattle.route_events.specs.WorkedFrames.{value_by_frame, value_is_taken, value_for_other, value_on_stream, once_cleared, frames_in_pieces, second_accepted, frame_beside, both_delivered, frame_too_large, closed_and_lost, frame_within, gated_by_frame, sent_beside, misdirection_lifted, sent_on_it_again, frames_without_tls, none_taken};
+ghost use Rattle.route_events.specs.WorkedFrames.{value_by_frame, value_is_taken, value_for_other, value_on_stream, once_cleared, frames_in_pieces, second_accepted, frame_beside, both_delivered, frame_too_large, closed_and_lost, frame_within, gated_by_frame, sent_beside, misdirection_lifted, sent_on_it_again, frames_without_tls, none_taken, other_payloads, each_with_its_reason};
 
 use crate::{Action, Fact, Route, StepRefusal};
 
@@ -40,6 +40,7 @@ pub fn worked_frames()
     ensures within { actions (run [] frame_within) ≡ first_sent ++ (Action.Who site (1 ∷ []) ∷ []) }
     ensures gated { actions (run [] gated_by_frame) ≡ sent_beside }
     ensures lifted { actions (run [] misdirection_lifted) ≡ sent_on_it_again }
+    ensures payloads { actions (run [] other_payloads) ≡ each_with_its_reason }
     ensures without_tls { actions (run [] frames_without_tls) ≡ none_taken }
     ensures not_framed { refusal (run [] busy_connection) 4 (Fact.Input 1 (0 ∷ [])) ≡ Some StepRefusal.NotFramed }
     ensures not_open { refusal (run [] frame_too_large) 4 (Fact.Input 1 (0 ∷ [])) ≡ Some StepRefusal.NoSuchConn }

@@ -55,3 +55,7 @@ returns-clause-not_framed c = refl
 pub returns-clause-not_open : goal.returns-clause-not_open
 unfolding split_of
 returns-clause-not_open c = refl
+
+pub returns-clause-payloads : goal.returns-clause-payloads
+unfolding split_of ascii_origin read_origin read_host read_v4 read_ipv4 read_octet read_number value_taken percent_decode
+returns-clause-payloads c = refl
