@@ -1,7 +1,8 @@
 -- Lists, and what loops make of them, one more item at a time.
-use Rattle.std.proofs.Common.{◌≡◌, ◌≢◌, ℕ, ◌+◌, ◌<◌, zero, suc, Bool, true, false, cond, nat_eq, List, [], ◌∷◌, ◌++◌, map, filter, take, drop, set, get_or, length, refl, ap, sym, ◌∙◌, subst, arith, add-one}
+use Rattle.std.proofs.Common.{◌≡◌, ◌≢◌, ℕ, ◌+◌, ◌<◌, zero, suc, Bool, true, false, cond, nat_eq, List, [], ◌∷◌, ◌++◌, map, filter, find, Option, Some, None, take, drop, set, get_or, length, refl, ap, sym, ◌∙◌, subst, arith, add-one}
 use Rattle.std.proofs.Math.Seq.{drop-cons}
 use Rattle.std.specs.Cmp.Lexicographic.{pointwise, same_text}
+use Rattle.std.specs.List.{position_from}
 use Rattle.alt_base.proofs.Numbers.{eq_self}
 use Rattle.alt_base.proofs.Booleans.{contradicts}
 
@@ -50,3 +51,12 @@ filter_within {X} p q (x ∷ xs) h = by_tests (p x) (q x) refl refl (filter_with
     by_tests false true px qx rest = rw px rest
     by_tests true false px qx rest = contradicts (q x) (h x px) qx
     by_tests false false px qx rest = rest
+
+-- where no place is found, nothing is found
+pub none_found : {X : Type 0} (t : X → Bool) (i : ℕ) (xs : List X) → position_from t i xs ≡ None → find t xs ≡ None
+none_found t i [] h = refl
+none_found t i (x ∷ xs) h = by_test (t x) h (none_found t (i + 1) xs)
+  where
+    by_test : (b : Bool) → cond b (Some i) (position_from t (i + 1) xs) ≡ None → (position_from t (i + 1) xs ≡ None → find t xs ≡ None) → cond b (Some x) (find t xs) ≡ None
+    by_test true h rest = absurd (cc)
+    by_test false h rest = rest h

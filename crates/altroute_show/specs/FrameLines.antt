@@ -7,11 +7,11 @@ use Rattle.origin_values.specs.Written.{origin_text}
 use Rattle.altsvc_grammar.specs.Written.{value_text}
 use Rattle.altsvc_frame.specs.declared.frame.AltFrame.{AltFrame}
 use Rattle.altsvc_frame.specs.declared.refusal.AltFrameRefusal.{AltFrameRefusal}
-use Rattle.altsvc_frame.specs.declared.refusal.AltFrameRefusal.TheVariants.{Short, OriginPast, EmptyOnZero, OriginOnStream, BadOrigin, BadField}
+use Rattle.altsvc_frame.specs.RefusalNumbers.{refusal_number as altsvc_number}
 use Rattle.altsvc_frame.specs.FrameReading.{read_frame}
 use Rattle.origin_frame.specs.declared.listed.Listed.{Listed}
 use Rattle.origin_frame.specs.declared.refusal.OriginFrameRefusal.{OriginFrameRefusal}
-use Rattle.origin_frame.specs.declared.refusal.OriginFrameRefusal.TheVariants.{NotStreamZero, Flags, EntryPast}
+use Rattle.origin_frame.specs.RefusalNumbers.{refusal_number as origin_number}
 use Rattle.origin_frame.specs.PayloadReading.{read_listed}
 use Rattle.h2_framing.specs.declared.head.Head.{Head}
 use Rattle.h2_framing.specs.declared.frame.Frame.{Frame}
@@ -26,14 +26,6 @@ abbrev pub ignored_line : List ℕ → ℕ → ℕ → ℕ → List ℕ
 ignored_line kind stream number place = codes "ignored " ++ kind ++ spaced stream ++ spaced number ++ spaced place ++ codes "\n"
 
 -- ALTSVC (RFC 7838 4): the stream, the origin or `-`, and the value of the field
-abbrev pub altsvc_number : AltFrameRefusal → ℕ
-altsvc_number Short = 1
-altsvc_number OriginPast = 2
-altsvc_number EmptyOnZero = 3
-altsvc_number OriginOnStream = 4
-altsvc_number BadOrigin = 5
-altsvc_number BadField = 6
-
 abbrev pub origin_or_none : Option Origin → List ℕ
 origin_or_none None = codes "-"
 origin_or_none (Some origin) = origin_text origin
@@ -46,11 +38,6 @@ altsvc_reading_line stream (Ok frame) = altsvc_line stream frame
 altsvc_reading_line stream (Err at) = ignored_line (codes "altsvc") stream (altsvc_number at.reason) at.place
 
 -- ORIGIN (RFC 8336 2): the stream, the number of the entries that are skipped, and the origins
-abbrev pub origin_number : OriginFrameRefusal → ℕ
-origin_number NotStreamZero = 1
-origin_number Flags = 2
-origin_number EntryPast = 3
-
 abbrev pub spaced_origins : List Origin → List ℕ
 spaced_origins [] = []
 spaced_origins (origin ∷ origins) = (codes " " ++ origin_text origin) ++ spaced_origins origins

@@ -1,5 +1,5 @@
 ghost use Rattle.std.specs.Prelude.{◌≡◌, ◌≤◌, ◌++◌, length, IfOk, OnOk, codes};
-ghost use Rattle.altroute_show.specs.FrameLines.{spaced, ignored_line, altsvc_number, origin_or_none, altsvc_line, altsvc_reading_line, origin_number, spaced_origins, origin_line, origin_reading_line, passed_line, frame_line, frame_lines};
+ghost use Rattle.altroute_show.specs.FrameLines.{spaced, ignored_line, origin_or_none, altsvc_line, altsvc_reading_line, spaced_origins, origin_line, origin_reading_line, passed_line, frame_line, frame_lines};
 ghost use Rattle.altroute_show.specs.FrameSteps.{IsShort, AreShort};
 ghost use Rattle.altsvc_frame.specs.FrameReading.{read_frame};
 ghost use Rattle.origin_frame.specs.PayloadReading.{read_listed};
@@ -7,9 +7,9 @@ ghost use Rattle.origin_values.specs.Written.{origin_text};
 
 use crate::texts::{put, put_number};
 use alt_base::{Bytes, ListOf, NoMemory, Refused};
-use altsvc_frame::{AltFrame, AltFrameRefusal};
+use altsvc_frame::AltFrame;
 use h2_framing::{Frame, Head};
-use origin_frame::{Listed, OriginFrameRefusal};
+use origin_frame::Listed;
 use origin_values::Origin;
 use std::alloc::Global;
 
@@ -45,19 +45,6 @@ fn put_frame(alloc: Global, text: &mut Vec<u8>, frame: &Frame) -> Result<(), NoM
     }
 }
 
-fn altsvc_number(refusal: AltFrameRefusal) -> u32
-    ensures { result ≡ altsvc_number refusal }
-{
-    match refusal {
-        AltFrameRefusal::Short => 1,
-        AltFrameRefusal::OriginPast => 2,
-        AltFrameRefusal::EmptyOnZero => 3,
-        AltFrameRefusal::OriginOnStream => 4,
-        AltFrameRefusal::BadOrigin => 5,
-        AltFrameRefusal::BadField => 6,
-    }
-}
-
 // The line of an ALTSVC frame with this payload.
 fn put_altsvc(
     alloc: Global,
@@ -71,7 +58,14 @@ fn put_altsvc(
         Ok(frame) => put_alternatives(alloc, text, stream, &frame),
         Err(Refused::NoMemory) => Err(NoMemory),
         Err(Refused::At { place, reason }) => {
-            put_ignored(alloc, text, b"altsvc", stream, altsvc_number(reason), place)
+            put_ignored(
+                alloc,
+                text,
+                b"altsvc",
+                stream,
+                u32::from(reason.number()),
+                place,
+            )
         }
     }
 }
@@ -112,16 +106,6 @@ fn put_origin_or_none(
     }
 }
 
-fn origin_number(refusal: OriginFrameRefusal) -> u32
-    ensures { result ≡ origin_number refusal }
-{
-    match refusal {
-        OriginFrameRefusal::NotStreamZero => 1,
-        OriginFrameRefusal::Flags => 2,
-        OriginFrameRefusal::EntryPast => 3,
-    }
-}
-
 // The line of an ORIGIN frame with this head and payload.
 fn put_origin(alloc: Global, text: &mut Vec<u8>, head: Head, payload: &[u8]) -> Result<(), NoMemory>
     requires { length payload.now ≤ 16384 }
@@ -136,7 +120,7 @@ fn put_origin(alloc: Global, text: &mut Vec<u8>, head: Head, payload: &[u8]) -> 
                 text,
                 b"origin",
                 head.stream,
-                origin_number(reason),
+                u32::from(reason.number()),
                 place,
             )
         }

@@ -1,3 +1,4 @@
 pub mod FrameGrammar
 pub mod FrameReading
 pub mod FrameWritten
+pub mod RefusalNumbers

@@ -1,3 +1,6 @@
+ghost use Rattle.std.specs.Prelude.{◌≡◌};
+ghost use Rattle.altsvc_frame.specs.RefusalNumbers.{refusal_number};
+
 /// Why an ALTSVC frame is ignored (RFC 7838 4), in the order in which the reasons are tried.
 #[derive(Clone, Copy, Debug, PartialEq, Eq)]
 pub enum AltFrameRefusal {
@@ -13,4 +16,20 @@ pub enum AltFrameRefusal {
     BadOrigin,
     /// The value of the field is refused: at its place behind the two octets and the origin.
     BadField,
+}
+
+impl AltFrameRefusal {
+    /// Its number, from 1 in the order in which the refusals stand here. It takes no memory.
+    pub fn number(self) -> u8
+        ensures { result ≡ refusal_number self }
+    {
+        match self {
+            AltFrameRefusal::Short => 1,
+            AltFrameRefusal::OriginPast => 2,
+            AltFrameRefusal::EmptyOnZero => 3,
+            AltFrameRefusal::OriginOnStream => 4,
+            AltFrameRefusal::BadOrigin => 5,
+            AltFrameRefusal::BadField => 6,
+        }
+    }
 }

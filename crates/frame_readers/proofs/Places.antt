@@ -33,14 +33,6 @@ is_place {X} t xs place h = by_test (ltb (position_or_len t xs) (length xs)) ref
         }
     by_test false w e = absurd (cc)
 
-pub none_found : {X : Type 0} (t : X → Bool) (i : ℕ) (xs : List X) → position_from t i xs ≡ None → find t xs ≡ None
-none_found t i [] h = refl
-none_found t i (x ∷ xs) h = by_test (t x) h (none_found t (i + 1) xs)
-  where
-    by_test : (b : Bool) → cond b (Some i) (position_from t (i + 1) xs) ≡ None → (position_from t (i + 1) xs ≡ None → find t xs ≡ None) → cond b (Some x) (find t xs) ≡ None
-    by_test true h rest = absurd (cc)
-    by_test false h rest = rest h
-
 -- where a test fails at a place, what passes it is the same without that place
 pub others_same : {X : Type 0} (p : X → Bool) (xs : List X) (i : ℕ) (d : X) → i < length xs → p (get_or xs i d) ≡ false → filter p (take i xs ++ drop (suc i) xs) ≡ filter p xs
 others_same p [] i d within fails = absurd (omega arith)

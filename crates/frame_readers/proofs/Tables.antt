@@ -71,6 +71,9 @@ taken inside rs out left conn reader is held skipped same dropped stand =
 pub left_stand : (rs : List ReaderOf) (conn : ℕ) (reader : FrameReader) (left : List ReaderOf) → Taken rs conn reader left → All Stands left
 left_stand rs conn reader left t = All-same Stands left (other_readers rs conn) t.others (all_left rs conn t.stand)
 
+pub no_reader_left : (rs : List ReaderOf) (conn : ℕ) (reader : FrameReader) (left : List ReaderOf) → Taken rs conn reader left → reader_among left conn ≡ None
+no_reader_left rs conn reader left t = ap (λ table. reader_among table conn) t.others ∙ none_left rs conn
+
 pub left_others : (rs : List ReaderOf) (conn : ℕ) (reader : FrameReader) (left : List ReaderOf) (n : ℕ) → Taken rs conn reader left → nat_eq conn n ≡ false → reader_among left n ≡ reader_among rs n
 left_others rs conn reader left n t apart = ap (λ table. reader_among table n) t.others ∙ others_left rs conn n apart
 

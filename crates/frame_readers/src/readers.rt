@@ -1,4 +1,4 @@
-ghost use Rattle.std.specs.Prelude.{◌≡◌, ◌≤◌, ◌+◌, ◌*◌, ◌++◌, [], ℕ, List, false, None, nat_eq, length, IfOk, OnOk};
+ghost use Rattle.std.specs.Prelude.{◌≡◌, ◌≤◌, ◌+◌, ◌*◌, ◌++◌, [], ℕ, List, false, None, Some, nat_eq, length, IfOk, OnOk};
 ghost use Rattle.std.specs.List.{All, position_from};
 ghost use Rattle.std.specs.Option.{option_copied};
 ghost use Rattle.h2_framing.specs.Reading.{Brings, buffer_of};
@@ -50,12 +50,13 @@ impl Readers {
     }
 
     /// Takes the next octets of a connection: the frames that end in them, in order, and the length of a head that is
-    /// above 16,384, behind which nothing is read (RFC 9113 4.2): the connection is to be closed, and what is fed of it
-    /// from then on is read as another stream. NoMemory comes only where memory isn't found; the reader of that
+    /// above 16,384, behind which nothing is read (RFC 9113 4.2): the connection is to be closed; it has
+    /// no reader then, and what is fed of it from then on is read as another stream. NoMemory comes only where memory isn't found; the reader of that
     /// connection may be gone then, and the table may not be used further.
     pub fn feed(&mut self, conn: u64, piece: &[u8]) -> Result<Brought, NoMemory>
         ensures brings { IfOk result (λ brought. (x : List ℕ) → Reads self.old conn x → Brings x piece.now brought.frames brought.too_large) }
         ensures reads { IfOk result (λ brought. (x : List ℕ) → Reads self.old conn x → brought.too_large ≡ None → Reads self.new conn (x ++ piece.now)) }
+        ensures ended { IfOk result (λ brought. (length : ℕ) → brought.too_large ≡ Some length → reader_among self.new conn ≡ None) }
         ensures others { OnOk result ((n : ℕ) → nat_eq conn n ≡ false → reader_among self.new n ≡ reader_among self.old n) }
         ensures few { IfOk result (λ brought. 9 * length brought.frames ≤ length piece.now + 16392) }
         ensures fit { IfOk result (λ brought. All Fits brought.frames) }

@@ -33,14 +33,6 @@ found_at t place xs h =
     let same : place - 0 ≡ place = omega arith in
     ap (slice_get xs) (sym same) ∙ found_from t 0 place xs h
 
-pub none_found : {X : Type 0} (t : X → Bool) (i : ℕ) (xs : List X) → position_from t i xs ≡ None → find t xs ≡ None
-none_found t i [] h = refl
-none_found t i (x ∷ xs) h = by_test (t x) h (none_found t (i + 1) xs)
-  where
-    by_test : (b : Bool) → cond b (Some i) (position_from t (i + 1) xs) ≡ None → (position_from t (i + 1) xs ≡ None → find t xs ≡ None) → cond b (Some x) (find t xs) ≡ None
-    by_test true h rest = absurd (cc)
-    by_test false h rest = rest h
-
 pub no_place : {X : Type 0} (t : X → Bool) (i : ℕ) (xs : List X) → find t xs ≡ None → position_from t i xs ≡ None
 no_place t i [] h = refl
 no_place t i (x ∷ xs) h = by_test (t x) h (no_place t (i + 1) xs)

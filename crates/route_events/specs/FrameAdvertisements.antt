@@ -8,11 +8,11 @@ use Rattle.origin_values.specs.declared.origin.Origin.{Origin}
 use Rattle.altsvc_grammar.specs.declared.alt_svc.AltSvc.{AltSvc}
 use Rattle.altsvc_frame.specs.declared.frame.AltFrame.{AltFrame}
 use Rattle.altsvc_frame.specs.declared.refusal.AltFrameRefusal.{AltFrameRefusal}
-use Rattle.altsvc_frame.specs.declared.refusal.AltFrameRefusal.TheVariants.{Short, OriginPast, EmptyOnZero, OriginOnStream, BadOrigin, BadField}
+use Rattle.altsvc_frame.specs.RefusalNumbers.{refusal_number as altsvc_number}
 use Rattle.altsvc_frame.specs.FrameReading.{read_frame}
 use Rattle.origin_frame.specs.declared.listed.Listed.{Listed}
 use Rattle.origin_frame.specs.declared.refusal.OriginFrameRefusal.{OriginFrameRefusal}
-use Rattle.origin_frame.specs.declared.refusal.OriginFrameRefusal.TheVariants.{NotStreamZero, Flags, EntryPast}
+use Rattle.origin_frame.specs.RefusalNumbers.{refusal_number as origin_number}
 use Rattle.origin_frame.specs.PayloadReading.{read_listed}
 use Rattle.route_events.specs.declared.action.Action.{Action}
 use Rattle.route_events.specs.declared.action.Action.TheVariants.{Alternatives, Ignored, Origins}
@@ -22,20 +22,6 @@ use Rattle.route_events.specs.Journal.{Journal}
 use Rattle.route_events.specs.Requests.{SentTo, request_of, sent_to}
 use Rattle.route_events.specs.Connections.{is_https, is_tls, open_connection, outstanding}
 use Rattle.route_events.specs.Authority.{is_authoritative}
-
--- the reasons of payloads that aren't those of such frames
-abbrev pub altsvc_reason : AltFrameRefusal → ℕ
-altsvc_reason Short = 1
-altsvc_reason OriginPast = 2
-altsvc_reason EmptyOnZero = 3
-altsvc_reason OriginOnStream = 4
-altsvc_reason BadOrigin = 5
-altsvc_reason BadField = 6
-
-abbrev pub origin_reason : OriginFrameRefusal → ℕ
-origin_reason NotStreamZero = 1
-origin_reason Flags = 2
-origin_reason EntryPast = 3
 
 -- the newest send of a request is on a stream
 abbrev pub is_sent_on : Journal → ℕ → ℕ → Bool
@@ -61,7 +47,7 @@ value_action older now c value (Some o) =
 -- before these: the payload is none of an ALTSVC frame
 abbrev pub reading_action : Journal → ℕ → Connection → ℕ → Result AltFrame (At AltFrameRefusal) → Action
 reading_action older now c stream (Ok frame) = value_action older now c frame.value (spoken_for older c.number stream frame)
-reading_action older now c stream (Err at) = Ignored c.number 10 (altsvc_reason at.reason) at.place
+reading_action older now c stream (Err at) = Ignored c.number 10 (altsvc_number at.reason) at.place
 
 -- and before all: the connection is without TLS
 abbrev pub altsvc_action : Journal → ℕ → Connection → Head → List ℕ → Action
@@ -71,7 +57,7 @@ altsvc_action older now c head payload =
 -- an ORIGIN frame is accepted, or is ignored: the connection is without TLS, or the payload is none of an ORIGIN frame
 abbrev pub listing_action : Connection → Result Listed (At OriginFrameRefusal) → Action
 listing_action c (Ok listed) = Origins c.number (length listed.origins) listed.skipped
-listing_action c (Err at) = Ignored c.number 12 (origin_reason at.reason) at.place
+listing_action c (Err at) = Ignored c.number 12 (origin_number at.reason) at.place
 
 abbrev pub origin_action : Connection → Head → List ℕ → Action
 origin_action c head payload = if not (is_tls c) then Ignored c.number 12 10 0 else listing_action c (read_listed head.stream head.flags payload)

@@ -2,7 +2,8 @@ use Rattle.std.proofs.Common.{◌≡◌, Bool, Some, None, not, filter, ap, sym,
 use Rattle.std.specs.List.{position_from}
 use Rattle.frame_readers.specs.declared.readers.ReaderOf.{ReaderOf}
 use Rattle.frame_readers.specs.Readers.{is_of, reader_among, held_of, skipped_of}
-use Rattle.frame_readers.proofs.Places.{is_place, none_found, others_same}
+use Rattle.alt_base.proofs.Lists.{none_found}
+use Rattle.frame_readers.proofs.Places.{is_place, others_same}
 use Rattle.frame_readers.proofs.Tables.{new_holds}
 use Rattle.frame_readers.proofs.readers.take_reader.Goals.{After-remove, In-None}
 use Rattle.frame_readers.proofs.readers.take_reader.Goals as goal

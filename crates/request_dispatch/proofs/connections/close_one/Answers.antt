@@ -2,7 +2,7 @@ use Rattle.std.proofs.Common.{◌≡◌, ℕ, Bool, not, nat_eq, filter, Some, N
 use Rattle.std.specs.List.{position_from}
 use Rattle.conn_states.specs.Record.{Record}
 use Rattle.route_events.proofs.Lists.{nat_eq-flip}
-use Rattle.route_choice.proofs.Places.{none_found}
+use Rattle.alt_base.proofs.Lists.{none_found}
 use Rattle.request_dispatch.specs.ConnectionTable.{out_on}
 use Rattle.request_dispatch.proofs.Closing.{at_place, item_at, stands_within, others_same}
 use Rattle.request_dispatch.proofs.connections.close_one.Goals as goal

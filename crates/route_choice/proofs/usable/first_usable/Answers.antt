@@ -2,7 +2,8 @@ use Rattle.std.proofs.Common.{◌≡◌, ℕ, Bool, List, Option, Some, None, re
 use Rattle.std.specs.Prelude.{IfSome, IsNone, find, slice_get}
 use Rattle.std.specs.List.{position_from}
 use Rattle.route_choice.specs.Usable.{is_open_to}
-use Rattle.route_choice.proofs.Places.{found_at, none_found, no_place}
+use Rattle.alt_base.proofs.Lists.{none_found}
+use Rattle.route_choice.proofs.Places.{found_at, no_place}
 use Rattle.route_choice.proofs.usable.first_usable.Goals as goal
 
 at_place : {X : Type 0} (t : X → Bool) (xs : List X) (result : Option ℕ) → result ≡ position_from t 0 xs → IfSome result (λ place. slice_get xs place ≡ find t xs)

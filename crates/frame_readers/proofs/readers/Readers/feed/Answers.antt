@@ -2,7 +2,7 @@ use Rattle.std.proofs.Common.{◌++◌, ℕ, List, None, Some}
 use Rattle.std.proofs.lemmas.List.Elements.{All-same}
 use Rattle.h2_framing.specs.Reading.{StandsFor, Brings}
 use Rattle.frame_readers.specs.Readers.{Reads, Stands}
-use Rattle.frame_readers.proofs.Tables.{Taken, taken, left_stand, left_others, going_on, too_large, few, fit, never, back_stand, back_reads, back_others}
+use Rattle.frame_readers.proofs.Tables.{Taken, taken, left_stand, left_others, no_reader_left, going_on, too_large, few, fit, never, back_stand, back_reads, back_others}
 use Rattle.frame_readers.proofs.readers.Readers.feed.Goals.{After-drop_reader, After-push, In-TooLarge}
 use Rattle.frame_readers.proofs.readers.Readers.feed.Goals as goal
 
@@ -42,6 +42,9 @@ returns-in_ok-push-in-Going-clause-reads c = λ x reads going.
     let t = out at.After-drop_reader in
     back_reads _ _ _ _ _ _ (x ++ c.args.piece.now) t c.in_ok-push-in-Going.ensures.items (goes at.After-push t x reads).0
 
+pub returns-in_ok-push-in-Going-clause-ended : goal.returns-in_ok-push-in-Going-clause-ended
+returns-in_ok-push-in-Going-clause-ended c = λ length ends. absurd (cc)
+
 pub returns-in_ok-push-in-Going-clause-others : goal.returns-in_ok-push-in-Going-clause-others
 returns-in_ok-push-in-Going-clause-others c = λ n apart.
     back_others _ _ _ _ _ _ n (out (goal.at.returns-in_ok-push-in-Going-clause-others c).After-drop_reader) c.in_ok-push-in-Going.ensures.items apart
@@ -63,6 +66,11 @@ returns-in-TooLarge-clause-brings c = let at = goal.at.returns-in-TooLarge-claus
 
 pub returns-in-TooLarge-clause-reads : goal.returns-in-TooLarge-clause-reads
 returns-in-TooLarge-clause-reads c = λ x reads going. never c.in-TooLarge.length going
+
+pub returns-in-TooLarge-clause-ended : goal.returns-in-TooLarge-clause-ended
+returns-in-TooLarge-clause-ended c = λ length ends.
+    let at = goal.at.returns-in-TooLarge-clause-ended c in
+    no_reader_left _ _ _ _ (out at.After-drop_reader)
 
 pub returns-in-TooLarge-clause-others : goal.returns-in-TooLarge-clause-others
 returns-in-TooLarge-clause-others c = λ n apart. left_others _ _ _ _ n (out (goal.at.returns-in-TooLarge-clause-others c).After-drop_reader) apart
