@@ -160,6 +160,13 @@ impl<S: View> Conn<S> {
         self.bound
     }
 
+    /// The requests that are outstanding here, in the order of their sends. It takes no memory.
+    pub fn outstanding(&self) -> &[u32]
+        ensures { result.now ≡ self.now.outstanding }
+    {
+        self.outstanding.as_slice()
+    }
+
     /// A 421 came for an origin: the connection is misdirected for it until an ORIGIN frame lists it again
     /// (RFC 9110 15.5.20).
     pub fn misdirect(&mut self, origin: &Origin) -> Result<(), NoMemory>

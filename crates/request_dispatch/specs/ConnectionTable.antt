@@ -1,10 +1,11 @@
 -- The table of connections, as every contract sees it: the open ones, in the order of their opening.
-use Rattle.std.specs.Prelude.{ℕ, Bool, not, ◌&&◌, nat_eq, List, [], ◌∷◌, Option, None, Some, if◌then◌else◌, find, filter, max}
+use Rattle.std.specs.Prelude.{ℕ, Bool, false, not, ◌&&◌, nat_eq, List, [], ◌∷◌, Option, None, Some, if◌then◌else◌, find, filter, map, max}
+use Rattle.std.specs.Option.{option_map_or}
 use Rattle.altsvc_grammar.specs.declared.alt.Alt.{Alt}
 use Rattle.origin_values.specs.Equality.{origin_eq}
 use Rattle.origin_values.specs.declared.address.Addr.{Addr}
 use Rattle.origin_values.specs.declared.origin.Origin.{Origin}
-use Rattle.conn_states.specs.Changes.{begun as begun_record, with_sent, with_misdirected, unbound}
+use Rattle.conn_states.specs.Changes.{begun as begun_record, with_listed, with_sent, with_misdirected, unbound}
 use Rattle.conn_states.specs.Record.{Record}
 use Rattle.conn_states.specs.Said.{said}
 use Rattle.route_events.specs.declared.connection.Connection.{Connection}
@@ -61,6 +62,18 @@ sent_on at o conn request c = if nat_eq c.number conn then sent_for at o request
 -- a 421 came for a request of an origin that is outstanding on it (RFC 9110 15.5.20)
 abbrev pub misdirected_by : ℕ → Origin → Record → Record
 misdirected_by request o c = if is_one_of request c.outstanding then with_misdirected o c else c
+
+-- an ORIGIN frame that lists these origins was accepted on the connection of this number (RFC 8336 2.3)
+abbrev pub listed_on : ℕ → List Origin → Record → Record
+listed_on conn origins c = if nat_eq c.number conn then with_listed origins c else c
+
+-- the one of a number is authoritative for the origin
+abbrev pub is_carrier_of : (Origin → Addr → Bool) → Origin → ℕ → List Record → Bool
+is_carrier_of at o conn cs = option_map_or (is_carrier at o) (connection_among cs conn) false
+
+-- the numbers of those that are
+abbrev pub carrier_numbers : (Origin → Addr → Bool) → Origin → List Record → List ℕ
+carrier_numbers at o cs = map (λ (c : Record). c.number) (filter (is_carrier at o) cs)
 
 -- the one on which a request is outstanding
 abbrev pub carrying : List Record → ℕ → Option Record

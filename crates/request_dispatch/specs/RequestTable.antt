@@ -1,5 +1,6 @@
 -- The table of requests, as every contract sees it.
-use Rattle.std.specs.Prelude.{ℕ, not, nat_eq, nat_lt, List, [], ◌∷◌, ◌++◌, Option, Some, None, if◌then◌else◌, map, filter, find}
+use Rattle.std.specs.Prelude.{ℕ, Bool, false, not, nat_eq, nat_lt, List, [], ◌∷◌, ◌++◌, Option, Some, None, if◌then◌else◌, map, filter, find}
+use Rattle.std.specs.Option.{option_map_or, option_and_then}
 use Rattle.origin_values.specs.Equality.{origin_eq}
 use Rattle.origin_values.specs.declared.origin.Origin.{Origin}
 use Rattle.route_events.specs.declared.request.Request.{Request}
@@ -20,6 +21,14 @@ requests_of ws = map (λ (w : Waiting). w.request) ws
 -- the outstanding one of a number
 abbrev pub request_among : List Outstanding → ℕ → Option Outstanding
 request_among outs number = find (λ (x : Outstanding). nat_eq x.request.number number) outs
+
+-- the request of a number was sent on a stream
+abbrev pub is_sent_on : List Outstanding → ℕ → ℕ → Bool
+is_sent_on outs stream number = option_map_or (λ (x : Outstanding). option_map_or (nat_eq stream) x.stream false) (request_among outs number) false
+
+-- of some numbers, the request that was sent on a stream
+abbrev pub request_on : List Outstanding → ℕ → List ℕ → Option Outstanding
+request_on outs stream numbers = option_and_then (request_among outs) (find (is_sent_on outs stream) numbers)
 
 -- those that are left where some are lost or answered
 abbrev pub without_all : List ℕ → List Outstanding → List Outstanding

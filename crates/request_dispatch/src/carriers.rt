@@ -2,7 +2,7 @@ ghost use Rattle.std.specs.Prelude.{◌≡◌, ◌∷◌, ◌++◌, ◌&&◌, []
 ghost use Rattle.std.specs.List.{list_any};
 ghost use Rattle.std.specs.Option.{option_copied, option_and_then};
 ghost use Rattle.route_events.specs.Connections.{is_one_of};
-ghost use Rattle.request_dispatch.specs.ConnectionTable.{connection_among, is_carrier, is_free};
+ghost use Rattle.request_dispatch.specs.ConnectionTable.{connection_among, is_carrier, is_free, carrier_numbers};
 ghost use Rattle.request_dispatch.specs.Looks.{no_address};
 ghost use Rattle.request_dispatch.specs.Carriers.{candidate_of, candidates, is_answered_by_authority};
 
@@ -12,10 +12,11 @@ use crate::open_connection::OpenConnection;
 use alt_base::{ListOf, NoMemory};
 use origin_values::Origin;
 use route_choice::{Candidate, Candidates};
+use route_events::Conns;
 use std::alloc::Global;
 
-// Whether the connection is authoritative for the origin now.
-fn is_carrier(connection: &OpenConnection, origin: &Origin) -> bool
+/// Whether the connection is authoritative for the origin now, busy or not. It takes no memory.
+pub fn is_carrier(connection: &OpenConnection, origin: &Origin) -> bool
     ensures { result ≡ is_carrier no_address origin.now connection.now }
 {
     connection.authorises(origin, reach(connection.made(), origin))
@@ -35,6 +36,35 @@ pub(crate) fn is_any_carrier(connections: &[OpenConnection], origin: &Origin) ->
     connections
         .iter()
         .any(|connection| is_carrier(connection, origin))
+}
+
+// Appends the connection's number, where it is authoritative for the origin now.
+fn push_carrier(
+    numbers: &mut Conns,
+    connection: &OpenConnection,
+    origin: &Origin,
+) -> Result<(), NoMemory>
+    ensures { OnOk result (numbers.new ≡ numbers.old ++ carrier_numbers no_address origin.now (connection.now ∷ [])) }
+{
+    if is_carrier(connection, origin) {
+        return numbers.push(connection.number());
+    }
+    Ok(())
+}
+
+/// The numbers of those that are authoritative for the origin now, in order.
+pub(crate) fn carrier_numbers(
+    alloc: Global,
+    connections: &[OpenConnection],
+    origin: &Origin,
+) -> Result<Conns, NoMemory>
+    ensures { IfOk result (λ numbers. numbers ≡ carrier_numbers no_address origin.now connections.now) }
+{
+    let mut numbers = ListOf::new(alloc);
+    for connection in connections {
+        push_carrier(&mut numbers, connection, origin)?;
+    }
+    Ok(numbers)
 }
 
 fn answers(connection: &OpenConnection, request: u32, origin: &Origin) -> bool

@@ -1,6 +1,6 @@
 //! What happens to each of some open connections.
-ghost use Rattle.std.specs.Prelude.{◌≡◌, ◌<◌, map, OnOk};
-ghost use Rattle.request_dispatch.specs.ConnectionTable.{sent_on, misdirected_by, is_left_out, rebound, most_sends};
+ghost use Rattle.std.specs.Prelude.{◌≡◌, ◌<◌, map, IfOk, OnOk};
+ghost use Rattle.request_dispatch.specs.ConnectionTable.{sent_on, listed_on, misdirected_by, is_left_out, rebound, most_sends};
 ghost use Rattle.request_dispatch.specs.Looks.{no_address};
 ghost use Rattle.conn_states.specs.Changes.{with_answered};
 
@@ -8,7 +8,9 @@ use crate::authority::gives;
 use crate::open_connection::OpenConnection;
 use alt_base::NoMemory;
 use altsvc_grammar::Alt;
+use conn_states::Origins;
 use origin_values::{Origin, same_origin};
+use std::alloc::Global;
 
 // Sends a request for an origin, where the connection is the one of this number and may carry it.
 fn send_one(
@@ -40,6 +42,36 @@ pub(crate) fn send_on(
         send_one(connection, conn, origin, request)?;
     }
     Ok(())
+}
+
+// An ORIGIN frame is accepted on the connection, where it is the one of this number.
+fn list_one(
+    connection: OpenConnection,
+    conn: u64,
+    listed: &Origins,
+) -> Result<OpenConnection, NoMemory>
+    ensures { IfOk result (λ changed. changed ≡ listed_on conn listed.now connection) }
+{
+    if connection.number() == conn {
+        return connection.list(listed);
+    }
+    Ok(connection)
+}
+
+/// An ORIGIN frame that lists these origins is accepted on the connection of a number.
+pub(crate) fn list_on(
+    alloc: Global,
+    connections: Vec<OpenConnection>,
+    conn: u64,
+    listed: &Origins,
+) -> Result<Vec<OpenConnection>, NoMemory>
+    ensures { IfOk result (λ changed. changed.items ≡ map (listed_on conn listed.now) connections.items) }
+{
+    let mut changed = Vec::new(alloc);
+    for connection in connections {
+        changed.push(list_one(connection, conn, listed)?)?;
+    }
+    Ok(changed)
 }
 
 /// A request isn't outstanding any more, on any connection.

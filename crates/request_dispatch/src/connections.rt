@@ -1,22 +1,25 @@
 ghost use Rattle.std.specs.Prelude.{◌≡◌, ◌<◌, ◌++◌, ◌∷◌, [], map, nat_eq, OnOk, IfOk};
 ghost use Rattle.std.specs.List.{list_any, position_from};
 ghost use Rattle.std.specs.Option.{option_copied, option_and_then};
-ghost use Rattle.request_dispatch.specs.ConnectionTable.{connection_among, other_connections, out_on, begun, is_carrier, sent_on, misdirected_by, carrying, rebound, is_opened_by, most_sends};
+ghost use Rattle.request_dispatch.specs.ConnectionTable.{connection_among, other_connections, out_on, begun, is_carrier, is_carrier_of, carrier_numbers, sent_on, listed_on, misdirected_by, carrying, rebound, is_opened_by, most_sends};
 ghost use Rattle.conn_states.specs.Changes.{with_answered};
 ghost use Rattle.request_dispatch.specs.Looks.{no_address};
 ghost use Rattle.request_dispatch.specs.Carriers.{candidates, best_connection, is_answered_by_authority};
 
-use crate::carriers::{candidates, is_answered_by_authority, is_any_carrier};
-use crate::connection_changes::{forget_request, misdirect_all, rebind_all, send_on};
+use crate::carriers::{
+    candidates, carrier_numbers, is_answered_by_authority, is_any_carrier, is_carrier,
+};
+use crate::connection_changes::{forget_request, list_on, misdirect_all, rebind_all, send_on};
 use crate::open_connection::OpenConnection;
 use alt_base::{ListOf, NoMemory};
 use altsvc_grammar::Alt;
-use conn_states::{Made, Requests as Lost};
+use conn_states::{Made, Origins, Requests as Lost};
 use origin_values::{Origin, same_origin};
 use route_choice::{Candidates, best};
-use route_events::{Connection, Route, same_route};
+use route_events::{Connection, Conns, Route, same_route};
 use std::alloc::Global;
 use std::marker::Model;
+use std::mem;
 
 /// The open connections, in the order of their opening.
 #[derive(Drop)]
@@ -112,6 +115,31 @@ impl Connections {
         misdirect_all(&mut self.open, request, origin)
     }
 
+    /// An ORIGIN frame that lists these origins is accepted on the connection of a number (RFC 8336 2.3). NoMemory comes only
+    /// where memory isn't found, and then the connections are gone.
+    pub fn list(&mut self, alloc: Global, conn: u64, listed: &Origins) -> Result<(), NoMemory>
+        ensures { OnOk result (self.new ≡ map (listed_on conn listed.now) self.old) }
+    {
+        let open = mem::replace(&mut self.open, Vec::new(alloc));
+        self.open = list_on(alloc, open, conn, listed)?;
+        Ok(())
+    }
+
+    /// Whether the connection of a number is open and authoritative for the origin, busy or not. It takes no memory.
+    pub fn is_carrier(&self, conn: u64, origin: &Origin) -> bool
+        ensures { result ≡ is_carrier_of no_address origin.now conn self.now }
+    {
+        is_carrier_of(self.open.as_slice(), conn, origin)
+    }
+
+    /// The numbers of the connections that are authoritative for the origin, busy or not, in the order of their opening.
+    /// NoMemory comes only where memory isn't found.
+    pub fn carriers(&self, alloc: Global, origin: &Origin) -> Result<Conns, NoMemory>
+        ensures { IfOk result (λ numbers. numbers ≡ carrier_numbers no_address origin.now self.now) }
+    {
+        carrier_numbers(alloc, self.open.as_slice(), origin)
+    }
+
     /// The connection on which a request is outstanding; None exactly where there is none. It takes no memory.
     pub fn carrying(&self, request: u32) -> Option<&OpenConnection>
         ensures { option_copied result ≡ carrying self.now request }
@@ -191,6 +219,16 @@ fn maybe_of_number(connections: &[OpenConnection], number: Option<u64>) -> Optio
     match number {
         None => None,
         Some(number) => connection_among(connections, number),
+    }
+}
+
+// Whether the one of a number is authoritative for the origin.
+fn is_carrier_of(connections: &[OpenConnection], conn: u64, origin: &Origin) -> bool
+    ensures { result ≡ is_carrier_of no_address origin.now conn connections.now }
+{
+    match connection_among(connections, conn) {
+        None => false,
+        Some(connection) => is_carrier(connection, origin),
     }
 }
 

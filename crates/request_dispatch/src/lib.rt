@@ -26,6 +26,7 @@ mod waiting;
 
 pub use attempts::Attempts;
 pub use authority::{gives, is_secure, is_success, reach, succeeds};
+pub use carriers::is_carrier;
 pub use choice::{Choice, choose};
 pub use connections::Connections;
 pub use lent::Lent;

@@ -1,5 +1,5 @@
-ghost use Rattle.std.specs.Prelude.{◌≡◌, ◌<◌, ◌≤◌, OnOk, OnErr};
-ghost use Rattle.conn_states.specs.Changes.{begun as begun_record, with_misdirected, with_answered, unbound};
+ghost use Rattle.std.specs.Prelude.{◌≡◌, ◌<◌, ◌≤◌, IfOk, OnOk, OnErr};
+ghost use Rattle.conn_states.specs.Changes.{begun as begun_record, with_listed, with_misdirected, with_answered, unbound};
 ghost use Rattle.conn_states.specs.Said.{said};
 ghost use Rattle.route_events.specs.Authority.{authorises};
 ghost use Rattle.route_events.specs.Connections.{is_one_of};
@@ -12,7 +12,7 @@ use crate::authority::reach;
 use crate::connection_state::ConnectionState;
 use crate::lent::Lent;
 use alt_base::NoMemory;
-use conn_states::{Conn, Made, Requests as Lost, send_where_authoritative};
+use conn_states::{Conn, Made, Origins, Requests as Lost, send_where_authoritative};
 use origin_values::Origin;
 use route_events::Reach;
 use std::alloc::Global;
@@ -168,6 +168,30 @@ impl OpenConnection {
             ConnectionState::Plain(conn) => conn.answered(request),
             ConnectionState::Gated(conn) => conn.answered(request),
         };
+    }
+
+    /// The requests that are outstanding on it, in the order of their sends. It takes no memory.
+    pub fn outstanding(&self) -> &[u32]
+        ensures { result.now ≡ self.now.outstanding }
+    {
+        match &self.state {
+            ConnectionState::Plain(conn) => conn.outstanding(),
+            ConnectionState::Gated(conn) => conn.outstanding(),
+        }
+    }
+
+    // An ORIGIN frame that lists these origins is accepted on it (RFC 8336 2.3).
+    pub(crate) fn list(self, listed: &Origins) -> Result<OpenConnection, NoMemory>
+        ensures { IfOk result (λ connection. connection ≡ with_listed listed.now self) }
+    {
+        let state = match self.state {
+            ConnectionState::Plain(conn) => ConnectionState::Gated(conn.gate(listed)?),
+            ConnectionState::Gated(mut conn) => {
+                conn.add(listed)?;
+                ConnectionState::Gated(conn)
+            }
+        };
+        Ok(OpenConnection { state })
     }
 
     // Its end, and what is lost by it, in the order of the sends.

@@ -1,8 +1,8 @@
-ghost use Rattle.std.specs.Prelude.{◌≡◌, [], OnOk, map, nat_lt};
-ghost use Rattle.std.specs.Option.{option_copied};
+ghost use Rattle.std.specs.Prelude.{◌≡◌, [], false, OnOk, map, find, nat_eq, nat_lt};
+ghost use Rattle.std.specs.Option.{option_copied, option_map_or};
 ghost use Rattle.std.specs.List.{position_from};
 ghost use Rattle.route_events.specs.Connections.{is_one_of};
-ghost use Rattle.request_dispatch.specs.RequestTable.{request_among, without_all, arrived, tried_more, tried_after, out_tried_after, after_end, lost, placed, waits_again, sent_back};
+ghost use Rattle.request_dispatch.specs.RequestTable.{request_among, is_sent_on, request_on, without_all, arrived, tried_more, tried_after, out_tried_after, after_end, lost, placed, waits_again, sent_back};
 ghost use Rattle.request_dispatch.specs.StepStates.{still_waiting, sent_request};
 
 use crate::outstanding::Outstanding;
@@ -46,6 +46,14 @@ impl Requests {
         ensures { option_copied result ≡ request_among self.now.outstanding number }
     {
         request_among(self.outstanding.as_slice(), number)
+    }
+
+    /// Of the requests of these numbers, the outstanding one that was sent on a stream; None exactly where none was. It takes
+    /// no memory.
+    pub fn on_stream(&self, stream: u32, numbers: &[u32]) -> Option<&Outstanding>
+        ensures { option_copied result ≡ request_on self.now.outstanding stream numbers.now }
+    {
+        request_on(self.outstanding.as_slice(), stream, numbers)
     }
 
     /// A request arrives, and waits behind the others. NoMemory comes only where memory isn't found.
@@ -132,6 +140,45 @@ fn request_among(outstanding: &[Outstanding], number: u32) -> Option<&Outstandin
     outstanding
         .iter()
         .find(|sent| sent.request.number == number)
+}
+
+fn is_on(sent: &Outstanding, stream: u32) -> bool
+    ensures { result ≡ option_map_or (nat_eq stream) sent.now.stream false }
+{
+    match sent.stream {
+        None => false,
+        Some(own) => stream == own,
+    }
+}
+
+fn is_sent_on(outstanding: &[Outstanding], stream: u32, number: u32) -> bool
+    ensures { result ≡ is_sent_on outstanding.now stream number }
+{
+    match request_among(outstanding, number) {
+        None => false,
+        Some(sent) => is_on(sent, stream),
+    }
+}
+
+fn number_on<'a>(outstanding: &[Outstanding], stream: u32, numbers: &'a [u32]) -> Option<&'a u32>
+    ensures { option_copied result ≡ find (is_sent_on outstanding.now stream) numbers.now }
+{
+    numbers
+        .iter()
+        .find(|number| is_sent_on(outstanding, stream, **number))
+}
+
+fn request_on<'a>(
+    outstanding: &'a [Outstanding],
+    stream: u32,
+    numbers: &[u32],
+) -> Option<&'a Outstanding>
+    ensures { option_copied result ≡ request_on outstanding.now stream numbers.now }
+{
+    match number_on(outstanding, stream, numbers) {
+        None => None,
+        Some(number) => request_among(outstanding, *number),
+    }
 }
 
 /// Whether a request is one of those of these numbers.
