@@ -3,6 +3,8 @@ use Rattle.std.proofs.Common.{ℕ, zero, suc, ◌<◌, ◌≤◌, List, [], ◌�
 use Rattle.byteorder.specs.Endian.{big_bytes}
 use Rattle.hex.specs.Hex.{IsBytes, encode_lower}
 use Rattle.hex.proofs.HexLemmas.{decode_of-encode_lower}
+use Rattle.hex_text.specs.HexGrammar.{SpellsHex}
+use Rattle.hex_text.proofs.HexReading.{hex_spelled}
 use Rattle.dns_names.specs.Names.{AreBytes, AreNameBytes, AreLabels, IsSized, labels_octets, wire_form}
 use Rattle.dns_names.proofs.Bytes.{bytes_both}
 use Rattle.svcb_wire.specs.declared.param.Param.{Param}
@@ -11,8 +13,6 @@ use Rattle.svcb_wire.specs.declared.svcb.Svcb.{Svcb}
 use Rattle.svcb_wire.specs.Forms.{HasForm, AreParams, AreIds, AreAddresses}
 use Rattle.svcb_wire.specs.Octets.{keys_octets, ids_octets, addresses_octets, key_of, value_of, param_octets, params_octets}
 use Rattle.svcb_wire.specs.Records.{IsRecord, record_octets}
-use Rattle.altroute_show.specs.InputTexts.{SpellsHex}
-use Rattle.altroute_show.proofs.InputTexts.{hex_spelled}
 
 pair_bytes : (n : ℕ) → AreBytes (big_bytes 2 n)
 pair_bytes n = (omega arith, (omega arith, tt))

@@ -14,6 +14,8 @@ use Rattle.altsvc_grammar.proofs.RefusedValues.{value_refused}
 use Rattle.altsvc_grammar.proofs.EveryValue.{read_spelled, read_refused}
 use Rattle.hex.specs.Hex.{encode_lower, decode_of}
 use Rattle.hex.specs.declared.error.FromHexError.{FromHexError}
+use Rattle.hex_text.specs.HexGrammar.{SpellsHex}
+use Rattle.hex_text.proofs.HexReading.{hex_read, hex_spelled}
 use Rattle.svcb_wire.specs.declared.svcb.Svcb.{Svcb}
 use Rattle.svcb_wire.specs.declared.refusal.WireRefusal.{WireRefusal}
 use Rattle.svcb_wire.specs.RecordGrammar.{SpellsRecord, RecordRefusedAt}
@@ -34,9 +36,9 @@ use Rattle.altroute_show.specs.declared.record_form.RecordForm.{RecordForm}
 use Rattle.altroute_show.specs.declared.record_form.RecordForm.TheVariants.{Text, Json}
 use Rattle.altroute_show.specs.declared.whole_command.WholeCommand.TheVariants.{ShowAltSvc, WriteHttps}
 use Rattle.altroute_show.specs.Given.{altsvc_reading_given, record_given, octets_given, text_reading_given, form_line, octets_line, refused_at, wire_refusal_number, given_for}
-use Rattle.altroute_show.specs.InputTexts.{IsInput, SpellsHex}
+use Rattle.altroute_show.specs.InputTexts.{IsInput}
 use Rattle.altroute_show.specs.Answers.{IsGivenBy, showing}
-use Rattle.altroute_show.proofs.InputTexts.{text_of, hex_read, hex_spelled, octets_are}
+use Rattle.altroute_show.proofs.InputTexts.{text_of, octets_are}
 use Rattle.altroute_show.proofs.RecordBytes.{digits_spell}
 
 -- `show altsvc`

@@ -1,6 +1,5 @@
--- The text that an input is, and the octets that hex digits spell.
-use Rattle.std.specs.Prelude.{◌≡◌, ◌⊎◌, ◌+◌, ◌*◌, ℕ, List, [], ◌∷◌, ◌++◌, Some}
-use Rattle.hex.specs.Hex.{hex_digit_value}
+-- The text that an input is.
+use Rattle.std.specs.Prelude.{◌≡◌, ◌⊎◌, List, [], ◌∷◌, ◌++◌, ℕ}
 
 pub record EndsInNewline (text : List ℕ) : Type 0 where
   pub front : List ℕ
@@ -9,17 +8,3 @@ pub record EndsInNewline (text : List ℕ) : Type 0 where
 -- a text with one newline behind it, or a text that ends in none
 abbrev pub IsInput : List ℕ → List ℕ → Type 0
 IsInput input text = (input ≡ text ++ 10 ∷ []) ⊎ ((input ≡ text) × ¬ (EndsInNewline text))
-
--- an octet in two hex digits of either case, the high one first
-pub record SpellsOctet (high low octet : ℕ) : Type 0 where
-  pub upper : ℕ
-  pub lower : ℕ
-  pub of_high : hex_digit_value high ≡ Some upper
-  pub of_low : hex_digit_value low ≡ Some lower
-  pub value : octet ≡ upper * 16 + lower
-
--- two hex digits for each octet
-abbrev pub SpellsHex : List ℕ → List ℕ → Type 0
-SpellsHex [] [] = Unit {0}
-SpellsHex (high ∷ low ∷ digits) (octet ∷ octets) = SpellsOctet high low octet × SpellsHex digits octets
-SpellsHex _ _ = ⊥

@@ -7,6 +7,7 @@ ghost use Rattle.altsvc_grammar.specs.RefusalNumbers.{refusal_number};
 ghost use Rattle.altsvc_grammar.specs.ValueGrammar.{SpellsValue};
 ghost use Rattle.altsvc_grammar.specs.ValueRefusals.{ValueRefusedAt};
 ghost use Rattle.altsvc_grammar.specs.Shown.{show_lines};
+ghost use Rattle.hex_text.specs.HexGrammar.{SpellsHex};
 ghost use Rattle.svcb_wire.specs.declared.svcb.Svcb.{Svcb};
 ghost use Rattle.svcb_wire.specs.declared.refusal.WireRefusal.{WireRefusal};
 ghost use Rattle.svcb_wire.specs.RecordGrammar.{SpellsRecord, RecordRefusedAt};
@@ -18,7 +19,7 @@ ghost use Rattle.altroute_show.specs.declared.given.Given.TheVariants.{Shown, Re
 ghost use Rattle.altroute_show.specs.declared.record_form.RecordForm.{RecordForm};
 ghost use Rattle.altroute_show.specs.declared.whole_command.WholeCommand.TheVariants.{ShowAltSvc, WriteHttps};
 ghost use Rattle.altroute_show.specs.Given.{form_line, octets_line, refused_at, wire_refusal_number, given_for};
-ghost use Rattle.altroute_show.specs.InputTexts.{IsInput, SpellsHex};
+ghost use Rattle.altroute_show.specs.InputTexts.{IsInput};
 ghost use Rattle.altroute_show.specs.Answers.{IsGivenBy, showing};
 
 /// `show altsvc` writes the lines of the value that the input spells (RFC 7838 3), and the refusal of an input that

@@ -1,5 +1,5 @@
 -- The reading of each field against its grammar.
-use Rattle.std.proofs.Common.{◌≡◌, ℕ, Bool, true, false, cond, nat_eq, List, Option, None, Some, Result, Ok, Err, refl, ap, sym, ◌∙◌}
+use Rattle.std.proofs.Common.{◌≡◌, ℕ, Bool, true, false, cond, nat_eq, List, [], ◌∷◌, Option, None, Some, Result, Ok, Err, refl, ap, sym, ◌∙◌, arith}
 use Rattle.std.specs.Cmp.Lexicographic.{pointwise, same_text}
 use Rattle.origin_values.specs.HostReading.{read_addr}
 use Rattle.origin_values.specs.OriginReading.{read_origin}
@@ -13,10 +13,13 @@ use Rattle.coalescing.specs.NamesReading.{read_names}
 use Rattle.coalescing.specs.NamesGrammar.{SpellsNames}
 use Rattle.coalescing.specs.declared.cert_name.CertName.{CertName}
 use Rattle.coalescing.proofs.NamesLemmas.{names_read, names_spelled}
+use Rattle.hex.specs.Hex.{decode_of}
+use Rattle.hex.proofs.HexLemmas.{decode_of-ok}
+use Rattle.hex_text.proofs.HexReading.{hex_read, hex_spelled}
 use Rattle.event_lines.specs.EventTexts.{proto_text}
-use Rattle.event_lines.specs.Fields.{number_of, port_of, proto_of, value_of, origin_of, names_of}
-use Rattle.event_lines.specs.LineGrammar.{SpellsProto}
-use Rattle.event_lines.specs.LineRefusals.{Form, OfNumber, OfPort, OfProto, OfAddr, OfOrigin, OfNames, HasForm}
+use Rattle.event_lines.specs.Fields.{number_of, port_of, proto_of, value_of, origin_of, names_of, octets_of}
+use Rattle.event_lines.specs.LineGrammar.{SpellsProto, SpellsOctets}
+use Rattle.event_lines.specs.LineRefusals.{Form, OfNumber, OfPort, OfProto, OfAddr, OfOrigin, OfNames, OfOctets, HasForm}
 use Rattle.event_lines.proofs.NumberTexts.{number_sound, number_complete, port_sound, port_complete}
 
 pub proto_sound : (text : List ℕ) (proto : Proto) → proto_of text ≡ Some proto → text ≡ proto_text proto
@@ -58,6 +61,18 @@ names_field_sound text names h = names_spelled text names (value_is (read_names 
 pub names_field_complete : (text : List ℕ) (names : List CertName) → SpellsNames text names → names_of text ≡ Some names
 names_field_complete text names h = ap value_of (names_read text names h)
 
+pub octets_sound : (text octets : List ℕ) → octets_of text ≡ Some octets → SpellsOctets text octets
+octets_sound [] octets h = cc
+octets_sound (b ∷ bs) octets h =
+    let read = value_is (decode_of (b ∷ bs)) octets h in
+    let ok = decode_of-ok (b ∷ bs) octets read in
+    record { some = omega (arith, ok.2); hex = hex_spelled (b ∷ bs) octets read }
+
+pub octets_complete : (text octets : List ℕ) → SpellsOctets text octets → octets_of text ≡ Some octets
+octets_complete [] [] s = absurd (omega (arith, s.some))
+octets_complete [] (octet ∷ octets) s = absurd s.hex
+octets_complete (b ∷ bs) octets s = ap value_of (hex_read (b ∷ bs) octets s.hex)
+
 -- a value was found
 abbrev pub is_some : {A : Type 0} → Option A → Bool
 is_some None = false
@@ -71,6 +86,7 @@ has_form OfProto word = is_some (proto_of word)
 has_form OfAddr word = is_some (read_addr word)
 has_form OfOrigin word = is_some (origin_of word)
 has_form OfNames word = is_some (names_of word)
+has_form OfOctets word = is_some (octets_of word)
 
 found : {A : Type 0} (o : Option A) → is_some o ≡ true → (value : A) × (o ≡ Some value)
 found None h = cc
@@ -83,6 +99,7 @@ form_sound OfProto word h = let v = found (proto_of word) h in (v.0, proto_sound
 form_sound OfAddr word h = let v = found (read_addr word) h in (v.0, read_addr_sound word v.0 v.1)
 form_sound OfOrigin word h = let v = found (origin_of word) h in (v.0, origin_field_sound word v.0 v.1)
 form_sound OfNames word h = let v = found (names_of word) h in (v.0, names_field_sound word v.0 v.1)
+form_sound OfOctets word h = let v = found (octets_of word) h in (v.0, octets_sound word v.0 v.1)
 
 pub form_complete : (form : Form) (word : List ℕ) → HasForm form word → has_form form word ≡ true
 form_complete (OfNumber most) word h = ap is_some (number_complete most word h.0 h.1)
@@ -91,6 +108,7 @@ form_complete OfProto word h = ap is_some (proto_complete word h.0 h.1)
 form_complete OfAddr word h = ap is_some (read_addr_complete word h.0 h.1)
 form_complete OfOrigin word h = ap is_some (origin_field_complete word h.0 h.1)
 form_complete OfNames word h = ap is_some (names_field_complete word h.0 h.1)
+form_complete OfOctets word h = ap is_some (octets_complete word h.0 h.1)
 
 pub form_missed : (form : Form) (word : List ℕ) → has_form form word ≡ false → ¬ (HasForm form word)
 form_missed form word h k = clash (sym h ∙ form_complete form word k)

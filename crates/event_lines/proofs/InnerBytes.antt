@@ -1,5 +1,5 @@
--- No space stands in the texts of numbers, addresses, names and origins.
-use Rattle.std.proofs.Common.{◌≡◌, ℕ, ◌+◌, ◌<◌, ◌≤◌, ◌^◌, Bool, true, false, cond, not, ◌&&◌, nat_eq, nat_lt, List, [], ◌∷◌, ◌++◌, decimal, codes, refl, ap, sym, ◌∙◌, subst, arith, inl, inr}
+-- No space stands in the texts of numbers, addresses, names, origins and octets.
+use Rattle.std.proofs.Common.{◌≡◌, ℕ, ◌+◌, ◌<◌, ◌≤◌, ◌^◌, Bool, true, false, cond, not, ◌&&◌, nat_eq, nat_lt, List, [], ◌∷◌, ◌++◌, decimal, codes, Option, Some, is_some, refl, ap, sym, ◌∙◌, subst, arith, inl, inr}
 use Rattle.std.specs.Char.{is_ascii_digit, digit_value}
 use Rattle.std.specs.Str.Parse.{AllDigits}
 use Rattle.std.specs.Net.Grammar.{IsDotted, IsColonHex, IsGroupsAfter}
@@ -23,6 +23,10 @@ use Rattle.origin_values.specs.declared.scheme.Scheme.TheVariants.{Http, Https}
 use Rattle.origin_values.proofs.Names.{name_labels}
 use Rattle.origin_values.proofs.AddressTexts.{addr_written}
 use Rattle.origin_values.proofs.HostTexts.{host_written}
+use Rattle.hex.specs.Hex.{hex_digit_value, is_hex_digit, encode_lower, IsBytes}
+use Rattle.hex.proofs.HexLemmas.{decode_of-encode_lower}
+use Rattle.hex_text.specs.HexGrammar.{SpellsHex}
+use Rattle.hex_text.proofs.HexReading.{hex_spelled}
 use Rattle.coalescing.specs.NamesWritten.{name_text, further_text, names_text, IsCertName, AreCertNames, HaveText}
 use Rattle.coalescing.specs.declared.cert_name.CertName.{CertName}
 use Rattle.coalescing.specs.declared.cert_name.CertName.TheVariants.{Exact, Wild, Ip}
@@ -143,3 +147,18 @@ each_inner (name ∷ names) h = inner_append (name_text name) (further_text name
 
 pub names_inner : (names : List CertName) → HaveText names → IsInner (names_text names)
 names_inner names h = each_inner names h.each
+
+hex_digit_inner : (b value : ℕ) → hex_digit_value b ≡ Some value → is_inner b ≡ true
+hex_digit_inner b value h = inner_from is_hex_digit refl b (ap (λ (o : Option ℕ). is_some o) h)
+
+hex_digits_inner : (digits octets : List ℕ) → SpellsHex digits octets → IsInner digits
+hex_digits_inner [] [] s = refl
+hex_digits_inner [] (octet ∷ octets) s = absurd s
+hex_digits_inner (high ∷ []) [] s = absurd s
+hex_digits_inner (high ∷ []) (octet ∷ octets) s = absurd s
+hex_digits_inner (high ∷ low ∷ digits) [] s = absurd s
+hex_digits_inner (high ∷ low ∷ digits) (octet ∷ octets) s =
+    and_from _ _ (hex_digit_inner high s.0.upper s.0.of_high) (and_from _ _ (hex_digit_inner low s.0.lower s.0.of_low) (hex_digits_inner digits octets s.1))
+
+pub octets_inner : (octets : List ℕ) → IsBytes octets → IsInner (encode_lower octets)
+octets_inner octets h = hex_digits_inner (encode_lower octets) octets (hex_spelled (encode_lower octets) octets (decode_of-encode_lower octets h))

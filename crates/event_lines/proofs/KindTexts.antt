@@ -7,15 +7,15 @@ use Rattle.origin_values.specs.declared.origin.Origin.{Origin}
 use Rattle.origin_values.specs.declared.proto.Proto.{Proto}
 use Rattle.origin_values.proofs.Addresses.{read_addr_sound}
 use Rattle.coalescing.specs.declared.cert_name.CertName.{CertName}
-use Rattle.route_events.specs.declared.fact.Fact.TheVariants.{Request, Opened, Failed, Closed, Response, Network, Tick}
-use Rattle.event_lines.specs.Fields.{number_of, port_of, proto_of, origin_of, names_of}
+use Rattle.route_events.specs.declared.fact.Fact.TheVariants.{Request, Opened, Failed, Closed, Response, Input, Network, Tick, Who}
+use Rattle.event_lines.specs.Fields.{number_of, port_of, proto_of, origin_of, names_of, octets_of}
 use Rattle.event_lines.specs.Limits.{most_short, most_long}
 use Rattle.event_lines.specs.Parts.{Part, Reading, ◌>>=◌, next_word, value_or, field, refused}
-use Rattle.event_lines.specs.LineReading.{request_fields, opened_fields, failed_fields, closed_fields, response_fields, kind_reading}
+use Rattle.event_lines.specs.LineReading.{request_fields, opened_fields, failed_fields, closed_fields, response_fields, input_fields, who_fields, kind_reading}
 use Rattle.event_lines.specs.ResponseGrammar.{Field, SpellFields, tabbed, most_fields, altsvc_of}
 use Rattle.event_lines.specs.ResponseReading.{status_reading, reply_reading, age_of}
 use Rattle.event_lines.specs.declared.response.Reply.{Reply}
-use Rattle.event_lines.specs.LineGrammar.{NoSpace, AreApart, spaced, SpellsStatus, SpellsRequest, SpellsOpened, SpellsNumbered, SpellsResponse, SpellsKind}
+use Rattle.event_lines.specs.LineGrammar.{NoSpace, AreApart, spaced, SpellsStatus, SpellsRequest, SpellsOpened, SpellsNumbered, SpellsResponse, SpellsInput, SpellsWho, SpellsKind}
 use Rattle.event_lines.specs.LineRefusals.{EndsWord, IsNext, IsStatusWord}
 use Rattle.event_lines.specs.declared.event.Event.{Event}
 use Rattle.event_lines.specs.declared.event.Event.TheVariants.{Client}
@@ -23,7 +23,7 @@ use Rattle.event_lines.specs.declared.refusal.LineRefusal.{LineRefusal}
 use Rattle.event_lines.specs.declared.refusal.LineRefusal.TheVariants.{BadField, UnknownKind}
 use Rattle.event_lines.proofs.AgeTexts.{age_told}
 use Rattle.event_lines.proofs.NumberTexts.{number_sound, port_sound}
-use Rattle.event_lines.proofs.FieldTexts.{proto_sound, origin_field_sound, names_field_sound}
+use Rattle.event_lines.proofs.FieldTexts.{proto_sound, origin_field_sound, names_field_sound, octets_sound}
 use Rattle.event_lines.proofs.Refusals.{got_parts}
 use Rattle.event_lines.proofs.ResponseTexts.{status_apart, tabbed_ends_word, reply_complete, status_reads, status_found, reply_found}
 use Rattle.event_lines.proofs.Spaces.{next_reads, next_spaced, Next, Nothing, More, next_of}
@@ -102,6 +102,15 @@ request_origin number o = got (Client (Request number o.0)) o.1
 abbrev request_number : ℕ × Part → Reading Event
 request_number q = field origin_of q.1 >>= request_origin q.0
 
+abbrev input_bytes : ℕ → List ℕ × Part → Reading Event
+input_bytes conn b = got (Client (Input conn b.0)) b.1
+
+abbrev input_conn : ℕ × Part → Reading Event
+input_conn c = field octets_of c.1 >>= input_bytes c.0
+
+abbrev who_origin : Origin × Part → Reading Event
+who_origin o = got (Client (Who o.0)) o.1
+
 abbrev numbered : (ℕ → Event) → ℕ × Part → Reading Event
 numbered event n = got (event n.0) n.1
 
@@ -111,6 +120,15 @@ pub request_complete : (q o : List ℕ) (number : ℕ) (origin : Origin) (place 
 request_complete q o number origin place apart is_number is_origin =
     field_reads (number_of most_short) request_number q (o ∷ []) place number apart.0 is_number
     ∙ field_reads origin_of (request_origin number) o [] (place + 1 + length q) origin apart.1.0 is_origin
+
+pub input_complete : (c b : List ℕ) (conn : ℕ) (bytes : List ℕ) (place : ℕ) → AreApart (c ∷ b ∷ []) → number_of most_long c ≡ Some conn → octets_of b ≡ Some bytes
+    → input_fields (part (spaced (c ∷ b ∷ [])) place) ≡ got (Client (Input conn bytes)) (part [] (place + 1 + length c + 1 + length b))
+input_complete c b conn bytes place apart is_number is_bytes =
+    field_reads (number_of most_long) input_conn c (b ∷ []) place conn apart.0 is_number
+    ∙ field_reads octets_of (input_bytes conn) b [] (place + 1 + length c) bytes apart.1.0 is_bytes
+
+pub who_complete : (o : List ℕ) (origin : Origin) (place : ℕ) → NoSpace o → origin_of o ≡ Some origin → who_fields (part (spaced (o ∷ [])) place) ≡ got (Client (Who origin)) (part [] (place + 1 + length o))
+who_complete o origin place apart is_origin = field_reads origin_of who_origin o [] place origin apart is_origin
 
 pub opened_complete : (a p d t n : List ℕ) (attempt : ℕ) (proto : Proto) (addr : Addr) (port : ℕ) (names : List CertName) (place : ℕ) → AreApart (a ∷ p ∷ d ∷ t ∷ n ∷ [])
     → number_of most_long a ≡ Some attempt → proto_of p ≡ Some proto → read_addr d ≡ Some addr → port_of t ≡ Some port → names_of n ≡ Some names
@@ -145,6 +163,34 @@ request_sound text whole place event left is ends h none =
       apart = (f.is_next.apart, (g.is_next.apart, tt));
       of_number = number_sound most_short f.word f.value f.is_read;
       of_origin = origin_field_sound g.word g.value g.is_read;
+    } in
+    subst (SpellsKind whole) last.0 spells
+
+pub input_sound : (text whole : List ℕ) (place : ℕ) (event : Event) (left : Part) → whole ≡ 32 ∷ (codes "input" ++ text) → EndsWord text → input_fields (part text place) ≡ got event left → left.text ≡ [] → SpellsKind whole event
+input_sound text whole place event left is ends h none =
+    let f = field_found (number_of most_long) input_conn text place (event, left) ends h in
+    let g = field_found octets_of (input_bytes f.value) f.behind (place + 1 + length f.word) (event, left) f.is_next.end f.then_is in
+    let last = got_parts (Client (Input f.value g.value)) event (part g.behind (place + 1 + length f.word + 1 + length g.word)) left g.then_is in
+    let spells : SpellsInput whole f.value g.value = record {
+      number_text = f.word;
+      bytes_text = g.word;
+      spelled = behind_kind (codes "input") text whole (f.word ∷ g.word ∷ []) is
+          (joined text f.word f.behind (g.word ∷ []) f.is_next (joined_last f.behind g.word g.behind g.is_next (ap text_of last.1 ∙ none)));
+      apart = (f.is_next.apart, (g.is_next.apart, tt));
+      of_number = number_sound most_long f.word f.value f.is_read;
+      of_bytes = octets_sound g.word g.value g.is_read;
+    } in
+    subst (SpellsKind whole) last.0 spells
+
+pub who_sound : (text whole : List ℕ) (place : ℕ) (event : Event) (left : Part) → whole ≡ 32 ∷ (codes "who" ++ text) → EndsWord text → who_fields (part text place) ≡ got event left → left.text ≡ [] → SpellsKind whole event
+who_sound text whole place event left is ends h none =
+    let f = field_found origin_of who_origin text place (event, left) ends h in
+    let last = got_parts (Client (Who f.value)) event (part f.behind (place + 1 + length f.word)) left f.then_is in
+    let spells : SpellsWho whole f.value = record {
+      origin_text = f.word;
+      spelled = behind_kind (codes "who") text whole (f.word ∷ []) is (joined_last text f.word f.behind f.is_next (ap text_of last.1 ∙ none));
+      apart = f.is_next.apart;
+      of_origin = origin_field_sound f.word f.value f.is_read;
     } in
     subst (SpellsKind whole) last.0 spells
 
@@ -255,8 +301,8 @@ is_name name kind = pointwise nat_eq name kind
 pub kind_sound : (name text whole : List ℕ) (p q : ℕ) (event : Event) (left : Part) → whole ≡ 32 ∷ (name ++ text) → EndsWord text → kind_reading (part name p) (part text q) ≡ got event left → left.text ≡ []
     → SpellsKind whole event
 kind_sound name text whole p q event left is ends h none =
-    go (is_name name (codes "request")) (is_name name (codes "opened")) (is_name name (codes "failed")) (is_name name (codes "closed")) (is_name name (codes "response")) (is_name name (codes "network")) (is_name name (codes "tick"))
-    refl refl refl refl refl refl refl h
+    go (is_name name (codes "request")) (is_name name (codes "opened")) (is_name name (codes "failed")) (is_name name (codes "closed")) (is_name name (codes "response")) (is_name name (codes "input"))
+    (is_name name (codes "network")) (is_name name (codes "tick")) (is_name name (codes "who")) refl refl refl refl refl refl refl refl refl h
   where
     named : (kind : List ℕ) → is_name name kind ≡ true → whole ≡ 32 ∷ (kind ++ text)
     named kind t = is ∙ ap (λ n. 32 ∷ (n ++ text)) (same_text name kind (sym t))
@@ -269,16 +315,18 @@ kind_sound name text whole p q event left is ends h none =
         let last = got_parts own event (part text q) left e in
         subst (SpellsKind whole) last.0 (spells (behind_kind kind text whole [] w (ap text_of last.1 ∙ none)))
 
-    go : (a b c d r n t : Bool) → is_name name (codes "request") ≡ a → is_name name (codes "opened") ≡ b → is_name name (codes "failed") ≡ c → is_name name (codes "closed") ≡ d → is_name name (codes "response") ≡ r
-        → is_name name (codes "network") ≡ n → is_name name (codes "tick") ≡ t
+    go : (a b c d r i n t w : Bool) → is_name name (codes "request") ≡ a → is_name name (codes "opened") ≡ b → is_name name (codes "failed") ≡ c → is_name name (codes "closed") ≡ d → is_name name (codes "response") ≡ r
+        → is_name name (codes "input") ≡ i → is_name name (codes "network") ≡ n → is_name name (codes "tick") ≡ t → is_name name (codes "who") ≡ w
         → cond a (request_fields (part text q)) (cond b (opened_fields (part text q)) (cond c (failed_fields (part text q)) (cond d (closed_fields (part text q)) (cond r (response_fields (part text q))
-        (cond n (got (Client Network) (part text q)) (cond t (got (Client Tick) (part text q)) (refused p UnknownKind)))))))
+        (cond i (input_fields (part text q)) (cond n (got (Client Network) (part text q)) (cond t (got (Client Tick) (part text q)) (cond w (who_fields (part text q)) (refused p UnknownKind)))))))))
         ≡ got event left → SpellsKind whole event
-    go true b c d r n t is_a is_b is_c is_d is_r is_n is_t k = request_sound text whole q event left (named (codes "request") is_a) ends k none
-    go false true c d r n t is_a is_b is_c is_d is_r is_n is_t k = opened_sound text whole q event left (named (codes "opened") is_b) ends k none
-    go false false true d r n t is_a is_b is_c is_d is_r is_n is_t k = numbered_sound (λ n. Client (Failed n)) (codes "failed") text whole q event left (λ n s. s) (named (codes "failed") is_c) ends k none
-    go false false false true r n t is_a is_b is_c is_d is_r is_n is_t k = numbered_sound (λ n. Client (Closed n)) (codes "closed") text whole q event left (λ n s. s) (named (codes "closed") is_d) ends k none
-    go false false false false true n t is_a is_b is_c is_d is_r is_n is_t k = response_sound text whole q event left (named (codes "response") is_r) ends k none
-    go false false false false false true t is_a is_b is_c is_d is_r is_n is_t k = alone (codes "network") (Client Network) (λ s. s) (named (codes "network") is_n) k
-    go false false false false false false true is_a is_b is_c is_d is_r is_n is_t k = alone (codes "tick") (Client Tick) (λ s. s) (named (codes "tick") is_t) k
-    go false false false false false false false is_a is_b is_c is_d is_r is_n is_t k = absurd (clash k)
+    go true b c d r i n t w is_a is_b is_c is_d is_r is_i is_n is_t is_w k = request_sound text whole q event left (named (codes "request") is_a) ends k none
+    go false true c d r i n t w is_a is_b is_c is_d is_r is_i is_n is_t is_w k = opened_sound text whole q event left (named (codes "opened") is_b) ends k none
+    go false false true d r i n t w is_a is_b is_c is_d is_r is_i is_n is_t is_w k = numbered_sound (λ n. Client (Failed n)) (codes "failed") text whole q event left (λ n s. s) (named (codes "failed") is_c) ends k none
+    go false false false true r i n t w is_a is_b is_c is_d is_r is_i is_n is_t is_w k = numbered_sound (λ n. Client (Closed n)) (codes "closed") text whole q event left (λ n s. s) (named (codes "closed") is_d) ends k none
+    go false false false false true i n t w is_a is_b is_c is_d is_r is_i is_n is_t is_w k = response_sound text whole q event left (named (codes "response") is_r) ends k none
+    go false false false false false true n t w is_a is_b is_c is_d is_r is_i is_n is_t is_w k = input_sound text whole q event left (named (codes "input") is_i) ends k none
+    go false false false false false false true t w is_a is_b is_c is_d is_r is_i is_n is_t is_w k = alone (codes "network") (Client Network) (λ s. s) (named (codes "network") is_n) k
+    go false false false false false false false true w is_a is_b is_c is_d is_r is_i is_n is_t is_w k = alone (codes "tick") (Client Tick) (λ s. s) (named (codes "tick") is_t) k
+    go false false false false false false false false true is_a is_b is_c is_d is_r is_i is_n is_t is_w k = who_sound text whole q event left (named (codes "who") is_w) ends k none
+    go false false false false false false false false false is_a is_b is_c is_d is_r is_i is_n is_t is_w k = absurd (clash k)

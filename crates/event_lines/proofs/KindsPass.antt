@@ -6,14 +6,14 @@ use Rattle.origin_values.specs.declared.address.Addr.{Addr}
 use Rattle.origin_values.specs.declared.origin.Origin.{Origin}
 use Rattle.origin_values.specs.declared.proto.Proto.{Proto}
 use Rattle.coalescing.specs.declared.cert_name.CertName.{CertName}
-use Rattle.route_events.specs.declared.fact.Fact.TheVariants.{Request, Opened, Failed, Closed, Response, Network, Tick}
-use Rattle.event_lines.specs.Fields.{number_of, port_of, proto_of, origin_of, names_of}
+use Rattle.route_events.specs.declared.fact.Fact.TheVariants.{Request, Opened, Failed, Closed, Response, Input, Network, Tick, Who}
+use Rattle.event_lines.specs.Fields.{number_of, port_of, proto_of, origin_of, names_of, octets_of}
 use Rattle.event_lines.specs.Limits.{most_short, most_long}
 use Rattle.event_lines.specs.Parts.{Part, Reading, ◌>>=◌, field, refused}
-use Rattle.event_lines.specs.LineReading.{request_fields, opened_fields, response_fields, kind_reading, end_reading}
+use Rattle.event_lines.specs.LineReading.{request_fields, opened_fields, response_fields, input_fields, who_fields, kind_reading, end_reading}
 use Rattle.event_lines.specs.ResponseReading.{status_reading, reply_reading}
 use Rattle.event_lines.specs.declared.response.Reply.{Reply}
-use Rattle.event_lines.specs.LineRefusals.{OfNumber, OfPort, OfProto, OfAddr, OfOrigin, OfNames, NoMore, Then, StatusAndFields, Kind, kinds}
+use Rattle.event_lines.specs.LineRefusals.{OfNumber, OfPort, OfProto, OfAddr, OfOrigin, OfNames, OfOctets, NoMore, Then, StatusAndFields, Kind, kinds}
 use Rattle.event_lines.specs.declared.event.Event.{Event}
 use Rattle.event_lines.specs.declared.event.Event.TheVariants.{Client}
 use Rattle.event_lines.specs.declared.refusal.LineRefusal.TheVariants.{UnknownKind}
@@ -28,6 +28,14 @@ request_passes : (rest : Part) → ended (request_fields rest) ≡ pass_fields (
 request_passes rest =
     ended_field (OfNumber most_short) (number_of most_short) (λ (q : ℕ × Part). field origin_of q.1 >>= λ (o : Origin × Part). says (Client (Request q.0 o.0)) o.1) (Then OfOrigin NoMore) rest (λ word. refl) λ number left.
     ended_field OfOrigin origin_of (λ (o : Origin × Part). says (Client (Request number o.0)) o.1) NoMore left (λ word. refl) λ origin end. refl
+
+input_passes : (rest : Part) → ended (input_fields rest) ≡ pass_fields (Then (OfNumber most_long) (Then OfOctets NoMore)) rest
+input_passes rest =
+    ended_field (OfNumber most_long) (number_of most_long) (λ (c : ℕ × Part). field octets_of c.1 >>= λ (b : List ℕ × Part). says (Client (Input c.0 b.0)) b.1) (Then OfOctets NoMore) rest (λ word. refl) λ conn left.
+    ended_field OfOctets octets_of (λ (b : List ℕ × Part). says (Client (Input conn b.0)) b.1) NoMore left (λ word. refl) λ bytes end. refl
+
+who_passes : (rest : Part) → ended (who_fields rest) ≡ pass_fields (Then OfOrigin NoMore) rest
+who_passes rest = ended_field OfOrigin origin_of (λ (o : Origin × Part). says (Client (Who o.0)) o.1) NoMore rest (λ word. refl) λ origin end. refl
 
 numbered_passes : (event : ℕ → Event) (rest : Part) → ended (field (number_of most_long) rest >>= λ (n : ℕ × Part). says (event n.0) n.1) ≡ pass_fields (Then (OfNumber most_long) NoMore) rest
 numbered_passes event rest =
@@ -84,5 +92,7 @@ kinds_pass name rest =
     (choice (pointwise nat_eq name.text (codes "failed")) _ _ _ _ (numbered_passes (λ n. Client (Failed n)) rest)
     (choice (pointwise nat_eq name.text (codes "closed")) _ _ _ _ (numbered_passes (λ n. Client (Closed n)) rest)
     (choice (pointwise nat_eq name.text (codes "response")) _ _ _ _ (response_passes rest)
+    (choice (pointwise nat_eq name.text (codes "input")) _ _ _ _ (input_passes rest)
     (choice (pointwise nat_eq name.text (codes "network")) (says (Client Network) rest) _ _ _ refl
-    (choice (pointwise nat_eq name.text (codes "tick")) (says (Client Tick) rest) (refused name.place UnknownKind) _ _ refl refl))))))
+    (choice (pointwise nat_eq name.text (codes "tick")) (says (Client Tick) rest) _ _ _ refl
+    (choice (pointwise nat_eq name.text (codes "who")) (who_fields rest) (refused name.place UnknownKind) _ _ (who_passes rest) refl))))))))

@@ -1,7 +1,7 @@
 -- The reading of lines against their grammar.
 use Rattle.std.proofs.Common.{◌≡◌, ℕ, ◌+◌, List, [], ◌∷◌, length, codes, Ok, Err, append-nil, refl, ap, sym, ◌∙◌, subst, inl, inr}
 use Rattle.alt_base.specs.declared.refusal.At.{At}
-use Rattle.route_events.specs.declared.fact.Fact.TheVariants.{Request, Opened, Failed, Closed, Response, Network, Tick}
+use Rattle.route_events.specs.declared.fact.Fact.TheVariants.{Request, Opened, Failed, Closed, Response, Input, Delivered, Network, Tick, Who}
 use Rattle.event_lines.specs.Limits.{most_short, most_long}
 use Rattle.event_lines.specs.Parts.{Part, Reading, ◌>>=◌, refused}
 use Rattle.event_lines.specs.LineReading.{kind_reading, end_reading, line_reading}
@@ -13,13 +13,13 @@ use Rattle.event_lines.specs.declared.refusal.LineRefusal.{LineRefusal}
 use Rattle.event_lines.specs.declared.refusal.LineRefusal.TheVariants.{BadMoment, UnknownKind}
 use Rattle.event_lines.proofs.AgeTexts.{age_read}
 use Rattle.event_lines.proofs.NumberTexts.{number_complete, port_complete}
-use Rattle.event_lines.proofs.FieldTexts.{proto_complete, origin_field_complete, names_field_complete}
+use Rattle.event_lines.proofs.FieldTexts.{proto_complete, origin_field_complete, names_field_complete, octets_complete}
 use Rattle.event_lines.proofs.Spaces.{IsInner, no_space_from, next_spaced}
 use Rattle.event_lines.specs.ResponseGrammar.{altsvc_of}
 use Rattle.event_lines.specs.LineRefusals.{IsNext}
 use Rattle.event_lines.proofs.Refusals.{Passed, passed_err}
 use Rattle.event_lines.proofs.Skeleton.{ended}
-use Rattle.event_lines.proofs.KindTexts.{request_complete, opened_complete, numbered_complete, response_rest, response_joined, response_complete, kind_sound}
+use Rattle.event_lines.proofs.KindTexts.{request_complete, opened_complete, numbered_complete, input_complete, who_complete, response_rest, response_joined, response_complete, kind_sound}
 use Rattle.event_lines.proofs.LineCases.{Said, part, bad_line, whole, behind_moment, skip_reads, no_moment, with_moment, with_kind, no_kind, Line, Skipped, Wordless, Alone, Full, line_of}
 use Rattle.origin_values.proofs.Addresses.{read_addr_complete}
 
@@ -133,8 +133,15 @@ kind_complete now place text (Client (Response request status age altsvc)) s =
     ∙ ap (whole now) read.1
     ∙ ap (λ a. said now (Client (Response request status a (altsvc_of s.fields)))) (sym (age_read s.fields age s.of_age))
     ∙ ap (λ v. said now (Client (Response request status age v))) (sym s.of_altsvc)
+kind_complete now place text (Client (Input conn bytes)) s =
+    named now place text (codes "input") (s.number_text ∷ s.bytes_text ∷ []) s.spelled refl
+    ∙ ap (whole now) (input_complete s.number_text s.bytes_text conn bytes (place + 1 + 5) s.apart (number_complete most_long s.number_text conn s.of_number) (octets_complete s.bytes_text bytes s.of_bytes))
+kind_complete now place text (Client (Delivered conn head payload)) s = absurd s
 kind_complete now place text (Client Network) s = named now place text (codes "network") [] s refl
 kind_complete now place text (Client Tick) s = named now place text (codes "tick") [] s refl
+kind_complete now place text (Client (Who origin)) s =
+    named now place text (codes "who") (s.origin_text ∷ []) s.spelled refl
+    ∙ ap (whole now) (who_complete s.origin_text origin (place + 1 + 3) s.apart (origin_field_complete s.origin_text origin s.of_origin))
 kind_complete now place text Skip s = absurd s
 
 begins_spaced : (text rest : List ℕ) → text ≡ 32 ∷ rest → EndsWord text
@@ -146,8 +153,11 @@ kind_ends text (Client (Opened attempt proto addr port names)) s = begins_spaced
 kind_ends text (Client (Failed attempt)) s = begins_spaced text _ s.spelled
 kind_ends text (Client (Closed conn)) s = begins_spaced text _ s.spelled
 kind_ends text (Client (Response request status age altsvc)) s = begins_spaced text _ s.spelled
+kind_ends text (Client (Input conn bytes)) s = begins_spaced text _ s.spelled
+kind_ends text (Client (Delivered conn head payload)) s = absurd s
 kind_ends text (Client Network) s = begins_spaced text _ s
 kind_ends text (Client Tick) s = begins_spaced text _ s
+kind_ends text (Client (Who origin)) s = begins_spaced text _ s.spelled
 kind_ends text Skip s = absurd s
 
 -- what is spelled is read

@@ -13,18 +13,21 @@ use Rattle.origin_values.proofs.OriginTexts.{origin_written}
 use Rattle.coalescing.specs.NamesWritten.{names_text}
 use Rattle.coalescing.specs.declared.cert_name.CertName.{CertName}
 use Rattle.coalescing.proofs.NamesTexts.{names_written}
+use Rattle.hex.specs.Hex.{encode_lower}
+use Rattle.hex.proofs.HexLemmas.{decode_of-encode_lower}
+use Rattle.hex_text.proofs.HexReading.{hex_spelled}
 use Rattle.route_events.specs.declared.fact.Fact.{Fact}
-use Rattle.route_events.specs.declared.fact.Fact.TheVariants.{Request, Opened, Failed, Closed, Response, Network, Tick}
-use Rattle.event_lines.specs.EventTexts.{proto_text, opened_text, fact_text, event_text}
+use Rattle.route_events.specs.declared.fact.Fact.TheVariants.{Request, Opened, Failed, Closed, Response, Input, Delivered, Network, Tick, Who}
+use Rattle.event_lines.specs.EventTexts.{proto_text, opened_text, input_text, fact_text, event_text}
 use Rattle.event_lines.specs.Limits.{most_short, most_long, most_port, most_status}
 use Rattle.event_lines.specs.HaveLines.{HasNoLastSpace, HasLine}
-use Rattle.event_lines.specs.Valid.{IsOpened, IsOptional, IsFact}
-use Rattle.event_lines.specs.LineGrammar.{NoLeadingZero, SpellsNumber, SpellsStatus, NoSpace, spaced, SpellsOpened, SpellsKind, SpellsLine}
+use Rattle.event_lines.specs.Valid.{IsOpened, IsOptional, IsInput, IsFact}
+use Rattle.event_lines.specs.LineGrammar.{NoLeadingZero, SpellsNumber, SpellsStatus, NoSpace, spaced, SpellsOpened, SpellsInput, SpellsKind, SpellsLine}
 use Rattle.event_lines.specs.LineReading.{line_reading}
 use Rattle.event_lines.specs.declared.event.Event.{Event}
 use Rattle.event_lines.specs.declared.event.Event.TheVariants.{Client, Skip}
 use Rattle.event_lines.proofs.WrittenResponses.{HasField, number_value, response_written}
-use Rattle.event_lines.proofs.InnerBytes.{number_inner, addr_inner, origin_inner, names_inner}
+use Rattle.event_lines.proofs.InnerBytes.{number_inner, addr_inner, origin_inner, names_inner, octets_inner}
 use Rattle.event_lines.proofs.Spaces.{IsInner, no_space_from}
 use Rattle.event_lines.proofs.Lines.{said, line_complete}
 use Rattle.alt_base.proofs.Digits.{value_of_digit, value_grows}
@@ -63,6 +66,22 @@ failed_joined n = simp append-nil
 
 closed_joined : (n : List ℕ) → 32 ∷ (codes "closed " ++ n) ≡ spaced (codes "closed" ∷ n ∷ [])
 closed_joined n = simp append-nil
+
+input_joined : (c b : List ℕ) → 32 ∷ (codes "input " ++ c ++ codes " " ++ b) ≡ spaced (codes "input" ∷ c ∷ b ∷ [])
+input_joined c b = simp (append_assoc, append-nil)
+
+who_joined : (o : List ℕ) → 32 ∷ (codes "who " ++ o) ≡ spaced (codes "who" ∷ o ∷ [])
+who_joined o = simp append-nil
+
+input_written : (conn : ℕ) (bytes : List ℕ) → IsInput conn bytes → SpellsInput (32 ∷ input_text conn bytes) conn bytes
+input_written conn bytes h = record {
+  number_text = decimal conn;
+  bytes_text = encode_lower bytes;
+  spelled = input_joined (decimal conn) (encode_lower bytes);
+  apart = (number_apart most_long conn (omega arith) h.conn_within, (no_space_from (encode_lower bytes) (octets_inner bytes h.of_bytes), tt));
+  of_number = number_written most_long conn (omega arith) h.conn_within;
+  of_bytes = record { some = h.some; hex = hex_spelled (encode_lower bytes) bytes (decode_of-encode_lower bytes h.of_bytes) };
+}
 
 opened_written : (attempt : ℕ) (proto : Proto) (addr : Addr) (port : ℕ) (names : List CertName) → IsOpened attempt addr port names → SpellsOpened (32 ∷ opened_text attempt proto addr port names) attempt proto addr port names
 opened_written attempt proto addr port names h = record {
@@ -138,8 +157,16 @@ fact_written (Response request status age altsvc) h end =
     response_written request status age altsvc (one_field request status age altsvc h.of_altsvc end) (number_value age (omega (arith, h.age_within)) (no_space_from (decimal age) (number_inner age (omega (arith, h.age_within))))) h.age_within
     (number_apart most_short request (omega arith) h.request_within) (number_written most_short request (omega arith) h.request_within)
     (status_written status h.final h.status_within)
+fact_written (Input conn bytes) h end = input_written conn bytes h
+fact_written (Delivered conn head payload) h end = absurd h
 fact_written Network h end = refl
 fact_written Tick h end = refl
+fact_written (Who origin) h end = record {
+  origin_text = origin_text origin;
+  spelled = who_joined (origin_text origin);
+  apart = no_space_from (origin_text origin) (origin_inner origin h);
+  of_origin = origin_written origin h;
+}
 
 -- the line of an event says it
 pub line_written : (now : ℕ) (event : Event) → HasLine now event → SpellsLine (event_text now event) now event

@@ -10,7 +10,7 @@ use Rattle.altsvc_grammar.specs.declared.alt_svc.AltSvc.{AltSvc}
 use Rattle.route_events.specs.Authority.{protocols}
 use Rattle.route_events.specs.Dispatch.{host_or}
 use Rattle.route_events.specs.declared.action.Action.{Action}
-use Rattle.route_events.specs.declared.action.Action.TheVariants.{OpenTo, SendOn, Refuse, Lost, Retry, Alternatives, Field}
+use Rattle.route_events.specs.declared.action.Action.TheVariants.{OpenTo, SendOn, Refuse, Lost, Retry, Close, Alternatives, Field, Ignored, Origins, Who}
 use Rattle.route_events.specs.declared.route.Route.{Route}
 use Rattle.route_events.specs.declared.route.Route.TheVariants.{Direct, Alt}
 
@@ -73,11 +73,45 @@ alternatives_text origin value = codes "alternatives " ++ origin_text origin ++ 
 abbrev pub ignored_field_text : ℕ → ℕ → ℕ → List ℕ
 ignored_field_text request reason place = codes "field " ++ decimal request ++ codes " " ++ decimal reason ++ codes " " ++ decimal place
 
+-- a connection that is closed, and the length that the head of a frame gave
+abbrev pub close_text : ℕ → ℕ → List ℕ
+close_text conn length = codes "close " ++ decimal conn ++ codes " frame " ++ decimal length
+
+-- a frame of kind 10 (ALTSVC, RFC 7838 4) or 12 (ORIGIN, RFC 8336 2)
+abbrev pub frame_text : ℕ → List ℕ
+frame_text kind = if kind == 10 then codes "altsvc" else codes "origin"
+
+-- the connection on which a frame was ignored, its kind, the reason and the place
+abbrev pub ignored_text : ℕ → ℕ → ℕ → ℕ → List ℕ
+ignored_text conn kind reason place =
+    codes "ignored " ++ decimal conn ++ codes " " ++ frame_text kind ++ codes " " ++ decimal reason ++ codes " " ++ decimal place
+
+-- the connection whose origins a frame listed, how many it listed, and how many entries were skipped
+abbrev pub origins_text : ℕ → ℕ → ℕ → List ℕ
+origins_text conn taken skipped = codes "origins " ++ decimal conn ++ codes " " ++ decimal taken ++ codes " " ++ decimal skipped
+
+-- numbers, each behind a space
+abbrev pub numbers_text : List ℕ → List ℕ
+numbers_text [] = []
+numbers_text (number ∷ numbers) = codes " " ++ decimal number ++ numbers_text numbers
+
+abbrev pub conns_text : List ℕ → List ℕ
+conns_text [] = codes " none"
+conns_text (conn ∷ conns) = numbers_text (conn ∷ conns)
+
+-- the connections that are authoritative for an origin
+abbrev pub who_text : Origin → List ℕ → List ℕ
+who_text origin conns = codes "who " ++ origin_text origin ++ conns_text conns
+
 abbrev pub action_text : Action → List ℕ
 action_text (OpenTo attempt origin route) = open_text attempt origin route
 action_text (SendOn request conn stream alt_used) = send_text request conn ++ stream_text stream ++ alt_used_text alt_used
 action_text (Refuse request) = codes "refuse " ++ decimal request
 action_text (Lost request) = codes "lost " ++ decimal request
 action_text (Retry request) = codes "retry " ++ decimal request
+action_text (Close conn length) = close_text conn length
 action_text (Alternatives origin value) = alternatives_text origin value
 action_text (Field request reason place) = ignored_field_text request reason place
+action_text (Ignored conn kind reason place) = ignored_text conn kind reason place
+action_text (Origins conn taken skipped) = origins_text conn taken skipped
+action_text (Who origin conns) = who_text origin conns

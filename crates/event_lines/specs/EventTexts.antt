@@ -6,8 +6,9 @@ use Rattle.origin_values.specs.declared.proto.Proto.{Proto}
 use Rattle.origin_values.specs.declared.proto.Proto.TheVariants.{H2, H3, Http11, Other}
 use Rattle.coalescing.specs.NamesWritten.{names_text}
 use Rattle.coalescing.specs.declared.cert_name.CertName.{CertName}
+use Rattle.hex.specs.Hex.{encode_lower}
 use Rattle.route_events.specs.declared.fact.Fact.{Fact}
-use Rattle.route_events.specs.declared.fact.Fact.TheVariants.{Request, Opened, Failed, Closed, Response, Network, Tick}
+use Rattle.route_events.specs.declared.fact.Fact.TheVariants.{Request, Opened, Failed, Closed, Response, Input, Delivered, Network, Tick, Who}
 use Rattle.event_lines.specs.declared.event.Event.{Event}
 use Rattle.event_lines.specs.declared.event.Event.TheVariants.{Client, Skip}
 
@@ -36,14 +37,22 @@ abbrev pub response_text : ℕ → ℕ → ℕ → Option (List ℕ) → List �
 response_text request status age altsvc =
     codes "response " ++ decimal request ++ codes " " ++ decimal status ++ age_text age ++ altsvc_text altsvc
 
+-- the octets in lower-case hex
+abbrev pub input_text : ℕ → List ℕ → List ℕ
+input_text conn bytes = codes "input " ++ decimal conn ++ codes " " ++ encode_lower bytes
+
+-- a frame that came whole has no line, and so no text
 abbrev pub fact_text : Fact → List ℕ
 fact_text (Request number origin) = codes "request " ++ decimal number ++ codes " " ++ origin_text origin
 fact_text (Opened attempt proto addr port names) = opened_text attempt proto addr port names
 fact_text (Failed attempt) = codes "failed " ++ decimal attempt
 fact_text (Closed conn) = codes "closed " ++ decimal conn
 fact_text (Response request status age altsvc) = response_text request status age altsvc
+fact_text (Input conn bytes) = input_text conn bytes
+fact_text (Delivered conn head payload) = []
 fact_text Network = codes "network"
 fact_text Tick = codes "tick"
+fact_text (Who origin) = codes "who " ++ origin_text origin
 
 -- the moment and what happened; a skipped line is empty
 abbrev pub event_text : ℕ → Event → List ℕ

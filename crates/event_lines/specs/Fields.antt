@@ -11,6 +11,7 @@ use Rattle.origin_values.specs.declared.proto.Proto.{Proto}
 use Rattle.origin_values.specs.declared.proto.Proto.TheVariants.{H2, H3, Http11, Other}
 use Rattle.coalescing.specs.NamesReading.{read_names}
 use Rattle.coalescing.specs.declared.cert_name.CertName.{CertName}
+use Rattle.hex.specs.Hex.{decode_of}
 use Rattle.event_lines.specs.Limits.{most_port, most_status}
 
 -- digits, at least one, and no zero before others
@@ -57,3 +58,8 @@ origin_of text = value_of (read_origin text)
 
 abbrev pub names_of : List ℕ → Option (List CertName)
 names_of text = value_of (read_names text)
+
+-- the octets of hex digits, at least one
+abbrev pub octets_of : List ℕ → Option (List ℕ)
+octets_of [] = None
+octets_of (b ∷ bs) = value_of (decode_of (b ∷ bs))

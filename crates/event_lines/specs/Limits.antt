@@ -1,4 +1,4 @@
--- The greatest numbers that a line may have.
+-- The greatest numbers that a line may have, or what it says.
 use Rattle.std.specs.Prelude.{ℕ}
 
 -- of a moment, and of a request's number
@@ -14,3 +14,7 @@ most_port = 65535
 
 abbrev pub most_status : ℕ
 most_status = 599
+
+-- of octets that come at once
+abbrev pub most_octets : ℕ
+most_octets = 65536

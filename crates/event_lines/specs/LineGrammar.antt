@@ -9,7 +9,8 @@ use Rattle.origin_values.specs.declared.origin.Origin.{Origin}
 use Rattle.origin_values.specs.declared.proto.Proto.{Proto}
 use Rattle.coalescing.specs.NamesGrammar.{SpellsNames}
 use Rattle.coalescing.specs.declared.cert_name.CertName.{CertName}
-use Rattle.route_events.specs.declared.fact.Fact.TheVariants.{Request, Opened, Failed, Closed, Response, Network, Tick}
+use Rattle.hex_text.specs.HexGrammar.{SpellsHex}
+use Rattle.route_events.specs.declared.fact.Fact.TheVariants.{Request, Opened, Failed, Closed, Response, Input, Delivered, Network, Tick, Who}
 use Rattle.event_lines.specs.EventTexts.{proto_text}
 use Rattle.event_lines.specs.Limits.{most_short, most_long, most_port, most_status}
 use Rattle.event_lines.specs.ResponseGrammar.{Field, SpellFields, tabbed, most_fields, HaveAge, altsvc_of}
@@ -42,6 +43,11 @@ pub record SpellsStatus (text : List ℕ) (status : ℕ) : Type 0 where
 
 abbrev pub SpellsProto : List ℕ → Proto → Type 0
 SpellsProto text proto = text ≡ proto_text proto
+
+-- two hex digits for each octet, and at least one octet
+pub record SpellsOctets (text octets : List ℕ) : Type 0 where
+  pub some : 1 ≤ length octets
+  pub hex : SpellsHex text octets
 
 abbrev pub NoSpace : List ℕ → Type 0
 NoSpace [] = Unit {0}
@@ -103,15 +109,35 @@ pub record SpellsResponse (text : List ℕ) (request status age : ℕ) (altsvc :
   pub of_age : HaveAge fields age
   pub of_altsvc : altsvc ≡ altsvc_of fields
 
--- what follows the moment: a space, the kind, and the kind's fields
+-- `input C HEX`
+pub record SpellsInput (text : List ℕ) (conn : ℕ) (bytes : List ℕ) : Type 0 where
+  pub number_text : List ℕ
+  pub bytes_text : List ℕ
+  pub spelled : text ≡ spaced (codes "input" ∷ number_text ∷ bytes_text ∷ [])
+  pub apart : AreApart (number_text ∷ bytes_text ∷ [])
+  pub of_number : SpellsNumber most_long number_text conn
+  pub of_bytes : SpellsOctets bytes_text bytes
+
+-- `who ORIGIN`
+pub record SpellsWho (text : List ℕ) (origin : Origin) : Type 0 where
+  pub origin_text : List ℕ
+  pub spelled : text ≡ spaced (codes "who" ∷ origin_text ∷ [])
+  pub apart : NoSpace origin_text
+  pub of_origin : SpellsOrigin origin_text origin
+
+-- what follows the moment: a space, the kind, and the kind's fields. No line says that a frame came whole: the rules make
+-- it of the octets that came.
 abbrev pub SpellsKind : List ℕ → Event → Type 0
 SpellsKind text (Client (Request number origin)) = SpellsRequest text number origin
 SpellsKind text (Client (Opened attempt proto addr port names)) = SpellsOpened text attempt proto addr port names
 SpellsKind text (Client (Failed attempt)) = SpellsNumbered (codes "failed") text attempt
 SpellsKind text (Client (Closed conn)) = SpellsNumbered (codes "closed") text conn
 SpellsKind text (Client (Response request status age altsvc)) = SpellsResponse text request status age altsvc
+SpellsKind text (Client (Input conn bytes)) = SpellsInput text conn bytes
+SpellsKind text (Client (Delivered conn head payload)) = ⊥
 SpellsKind text (Client Network) = text ≡ spaced (codes "network" ∷ [])
 SpellsKind text (Client Tick) = text ≡ spaced (codes "tick" ∷ [])
+SpellsKind text (Client (Who origin)) = SpellsWho text origin
 SpellsKind text Skip = ⊥
 
 -- an empty line, or one that begins with `#`

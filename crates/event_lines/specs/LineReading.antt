@@ -4,8 +4,8 @@ use Rattle.std.specs.Prelude.{ℕ, ◌+◌, Bool, true, nat_eq, List, [], ◌∷
 use Rattle.std.specs.Cmp.Lexicographic.{pointwise}
 use Rattle.alt_base.specs.declared.refusal.At.{At}
 use Rattle.origin_values.specs.HostReading.{read_addr}
-use Rattle.route_events.specs.declared.fact.Fact.TheVariants.{Request, Opened, Failed, Closed, Response, Network, Tick}
-use Rattle.event_lines.specs.Fields.{number_of, port_of, proto_of, origin_of, names_of}
+use Rattle.route_events.specs.declared.fact.Fact.TheVariants.{Request, Opened, Failed, Closed, Response, Input, Network, Tick, Who}
+use Rattle.event_lines.specs.Fields.{number_of, port_of, proto_of, origin_of, names_of, octets_of}
 use Rattle.event_lines.specs.Limits.{most_short, most_long}
 use Rattle.event_lines.specs.Parts.{Part, first_word, behind_word, refused, Reading, ◌>>=◌, next_word, value_or, field}
 use Rattle.event_lines.specs.ResponseReading.{status_reading, reply_reading}
@@ -51,6 +51,19 @@ response_fields rest = do
   reply ← reply_reading status.1
   Ok (Client (Response request.0 status.0 (unwrap_or reply.0.age 0) reply.0.altsvc), reply.1)
 
+-- `input C HEX`
+abbrev pub input_fields : Part → Reading Event
+input_fields rest = do
+  conn ← field (number_of most_long) rest
+  bytes ← field octets_of conn.1
+  Ok (Client (Input conn.0 bytes.0), bytes.1)
+
+-- `who ORIGIN`
+abbrev pub who_fields : Part → Reading Event
+who_fields rest = do
+  origin ← field origin_of rest
+  Ok (Client (Who origin.0), origin.1)
+
 abbrev pub is_kind : List ℕ → List ℕ → Bool
 is_kind kind word = pointwise nat_eq kind word
 
@@ -62,9 +75,11 @@ kind_reading kind rest =
     else (if is_kind kind.text (codes "failed") then failed_fields rest
     else (if is_kind kind.text (codes "closed") then closed_fields rest
     else (if is_kind kind.text (codes "response") then response_fields rest
+    else (if is_kind kind.text (codes "input") then input_fields rest
     else (if is_kind kind.text (codes "network") then Ok (Client Network, rest)
     else (if is_kind kind.text (codes "tick") then Ok (Client Tick, rest)
-    else refused kind.place UnknownKind))))))
+    else (if is_kind kind.text (codes "who") then who_fields rest
+    else refused kind.place UnknownKind))))))))
 
 -- nothing is left, or a field follows the last one
 abbrev pub nothing_at : List ℕ → ℕ → Result (Unit {0}) (At LineRefusal)

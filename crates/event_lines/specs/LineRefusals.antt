@@ -8,7 +8,7 @@ use Rattle.origin_values.specs.declared.proto.Proto.{Proto}
 use Rattle.coalescing.specs.NamesGrammar.{SpellsNames}
 use Rattle.coalescing.specs.declared.cert_name.CertName.{CertName}
 use Rattle.event_lines.specs.Limits.{most_short, most_long}
-use Rattle.event_lines.specs.LineGrammar.{SpellsNumber, SpellsPort, SpellsStatus, SpellsProto, NoSpace, IsSkipped, SpellsLine}
+use Rattle.event_lines.specs.LineGrammar.{SpellsNumber, SpellsPort, SpellsStatus, SpellsProto, SpellsOctets, NoSpace, IsSkipped, SpellsLine}
 use Rattle.event_lines.specs.ResponseGrammar.{Field, is_field_byte, is_word_byte, SpellsField, SpellFields, tabbed, most_fields}
 use Rattle.field_text.specs.Runs.{AllIn, BeginsIn}
 use Rattle.event_lines.specs.declared.event.Event.{Event}
@@ -23,6 +23,7 @@ pub data Form : Type 0 where
   OfAddr : Form
   OfOrigin : Form
   OfNames : Form
+  OfOctets : Form
 
 -- a word is of a form
 abbrev pub HasForm : Form → List ℕ → Type 0
@@ -32,6 +33,7 @@ HasForm OfProto word = (proto : Proto) × SpellsProto word proto
 HasForm OfAddr word = (addr : Addr) × SpellsAddr word addr
 HasForm OfOrigin word = (origin : Origin) × SpellsOrigin word origin
 HasForm OfNames word = (names : List CertName) × SpellsNames word names
+HasForm OfOctets word = (octets : List ℕ) × SpellsOctets word octets
 
 -- words of these forms in order, and behind them nothing, or a status and the fields of a response
 pub data Forms : Type 0 where
@@ -51,8 +53,10 @@ kinds =
     ∷ record { name = codes "failed"; forms = Then (OfNumber most_long) NoMore }
     ∷ record { name = codes "closed"; forms = Then (OfNumber most_long) NoMore }
     ∷ record { name = codes "response"; forms = Then (OfNumber most_short) StatusAndFields }
+    ∷ record { name = codes "input"; forms = Then (OfNumber most_long) (Then OfOctets NoMore) }
     ∷ record { name = codes "network"; forms = NoMore }
     ∷ record { name = codes "tick"; forms = NoMore }
+    ∷ record { name = codes "who"; forms = Then OfOrigin NoMore }
     ∷ []
 
 -- the first kind of this name has fields of these forms

@@ -1,14 +1,15 @@
 -- The moments and events that lines say.
-use Rattle.std.specs.Prelude.{◌≡◌, ℕ, ◌≤◌, List, Option, Some, None}
+use Rattle.std.specs.Prelude.{◌≡◌, ℕ, ◌≤◌, List, length, Option, Some, None}
 use Rattle.origin_values.specs.Valid.{IsAddr, IsOrigin}
 use Rattle.origin_values.specs.declared.address.Addr.{Addr}
 use Rattle.coalescing.specs.NamesWritten.{HaveText}
 use Rattle.coalescing.specs.declared.cert_name.CertName.{CertName}
 use Rattle.field_text.specs.DeltaGrammar.{greatest_delta_seconds}
 use Rattle.field_text.specs.Runs.{AllIn, BeginsIn}
+use Rattle.hex.specs.Hex.{IsBytes}
 use Rattle.route_events.specs.declared.fact.Fact.{Fact}
-use Rattle.route_events.specs.declared.fact.Fact.TheVariants.{Request, Opened, Failed, Closed, Response, Network, Tick}
-use Rattle.event_lines.specs.Limits.{most_short, most_long, most_port, most_status}
+use Rattle.route_events.specs.declared.fact.Fact.TheVariants.{Request, Opened, Failed, Closed, Response, Input, Delivered, Network, Tick, Who}
+use Rattle.event_lines.specs.Limits.{most_short, most_long, most_port, most_status, most_octets}
 use Rattle.event_lines.specs.Parts.{is_space}
 use Rattle.event_lines.specs.ResponseGrammar.{is_value_byte}
 use Rattle.event_lines.specs.declared.event.Event.{Event}
@@ -38,16 +39,30 @@ pub record IsResponse (request status age : ℕ) (altsvc : Option (List ℕ)) : 
   pub age_within : age ≤ greatest_delta_seconds
   pub of_altsvc : IsOptional altsvc
 
+pub record IsInput (conn : ℕ) (bytes : List ℕ) : Type 0 where
+  pub conn_within : conn ≤ most_long
+  pub some : 1 ≤ length bytes
+  pub of_bytes : IsBytes bytes
+
+-- no line says that a frame came whole
 abbrev pub IsFact : Fact → Type 0
 IsFact (Request number origin) = (number ≤ most_short) × IsOrigin origin
 IsFact (Opened attempt proto addr port names) = IsOpened attempt addr port names
 IsFact (Failed attempt) = attempt ≤ most_long
 IsFact (Closed conn) = conn ≤ most_long
 IsFact (Response request status age altsvc) = IsResponse request status age altsvc
+IsFact (Input conn bytes) = IsInput conn bytes
+IsFact (Delivered conn head payload) = ⊥
 IsFact Network = Unit {0}
 IsFact Tick = Unit {0}
+IsFact (Who origin) = IsOrigin origin
 
 -- a skipped line stands at the moment 0
 abbrev pub IsEvent : ℕ → Event → Type 0
 IsEvent now (Client fact) = (now ≤ most_short) × IsFact fact
 IsEvent now Skip = now ≡ 0
+
+-- at most 65,536 octets come at once
+abbrev pub IsShort : Event → Type 0
+IsShort (Client (Input conn bytes)) = length bytes ≤ most_octets
+IsShort event = Unit {0}

@@ -1,5 +1,5 @@
 ghost use Rattle.std.specs.Prelude.{◌≡◌, ◌++◌, IfOk, OnOk};
-ghost use Rattle.event_lines.specs.ActionTexts.{action_text, stream_text, alt_used_text, authority_text, open_text, send_text, alternatives_text, ignored_field_text};
+ghost use Rattle.event_lines.specs.ActionTexts.{action_text, stream_text, alt_used_text, authority_text, open_text, send_text, close_text, alternatives_text, ignored_field_text, frame_text, ignored_text, origins_text, numbers_text, conns_text, who_text};
 
 use crate::pieces::{append, append_number};
 use crate::protocols::protos_text;
@@ -12,12 +12,15 @@ use std::alloc::Global;
 
 /// The port that isn't written where an alternative is told to the server (RFC 7838 5): that of https.
 const PLAIN_PORT: u16 = 443;
+/// The kind of an ALTSVC frame (RFC 7838 4).
+const ALTSVC: u8 = 10;
 
 /// The line of an action, without a newline: `open A ORIGIN KIND PROTOS HOST PORT`, of kind `direct` or `alt`, with the
 /// protocols in the order h2, h3, http/1.1 and the host and port that the route goes to; `send Q on C`, with ` stream S`
 /// on HTTP/2 and ` alt-used X` where an alternative is told to the server (RFC 7838 5); `refuse Q`; `lost Q`; `retry Q`;
-/// `alternatives ORIGIN VALUE` with the canonical text of a value of Alt-Svc (RFC 7838 3); `field Q R PLACE`. Numbers are
-/// decimal.
+/// `close C frame LENGTH`; `alternatives ORIGIN VALUE` with the canonical text of a value of Alt-Svc (RFC 7838 3);
+/// `field Q R PLACE`; `ignored C altsvc R PLACE` or `ignored C origin R PLACE`; `origins C TAKEN SKIPPED`;
+/// `who ORIGIN C C` with each connection behind one space, or ` none` in their place. Numbers are decimal.
 pub fn write_action(alloc: Global, action: &Action) -> Result<Bytes, NoMemory>
     ensures { IfOk result (λ line. line ≡ action_text action.now) }
 {
@@ -50,6 +53,7 @@ pub fn write_action(alloc: Global, action: &Action) -> Result<Bytes, NoMemory>
             append(&mut line, b"retry ")?;
             append_number(&mut line, alloc, u64::from(*request))?;
         }
+        Action::Close { conn, length } => append_close(&mut line, alloc, *conn, *length)?,
         Action::Alternatives { origin, value } => {
             append_alternatives(&mut line, alloc, origin, value)?
         }
@@ -58,6 +62,18 @@ pub fn write_action(alloc: Global, action: &Action) -> Result<Bytes, NoMemory>
             reason,
             place,
         } => append_field(&mut line, alloc, *request, *reason, *place)?,
+        Action::Ignored {
+            conn,
+            kind,
+            reason,
+            place,
+        } => append_ignored(&mut line, alloc, *conn, *kind, *reason, *place)?,
+        Action::Origins {
+            conn,
+            taken,
+            skipped,
+        } => append_origins(&mut line, alloc, *conn, *taken, *skipped)?,
+        Action::Who { origin, conns } => { append_who(&mut line, alloc, origin, conns.as_slice())? }
     }
     Ok(ListOf::from_vec(line))
 }
@@ -167,4 +183,91 @@ fn append_field(
     append_number(line, alloc, u64::from(reason))?;
     append(line, b" ")?;
     append_number(line, alloc, u64::from(place))
+}
+
+fn append_close(line: &mut Vec<u8>, alloc: Global, conn: u64, length: u32) -> Result<(), NoMemory>
+    ensures { OnOk result (line.new.items ≡ line.old.items ++ close_text conn length) }
+{
+    append(line, b"close ")?;
+    append_number(line, alloc, conn)?;
+    append(line, b" frame ")?;
+    append_number(line, alloc, u64::from(length))
+}
+
+// The name of a frame's kind.
+fn frame_text(kind: u8) -> &'static [u8]
+    ensures { result.now ≡ frame_text kind }
+{
+    if kind == ALTSVC { b"altsvc" } else { b"origin" }
+}
+
+fn append_ignored(
+    line: &mut Vec<u8>,
+    alloc: Global,
+    conn: u64,
+    kind: u8,
+    reason: u8,
+    place: u32,
+) -> Result<(), NoMemory>
+    ensures { OnOk result (line.new.items ≡ line.old.items ++ ignored_text conn kind reason place) }
+{
+    append(line, b"ignored ")?;
+    append_number(line, alloc, conn)?;
+    append(line, b" ")?;
+    append(line, frame_text(kind))?;
+    append(line, b" ")?;
+    append_number(line, alloc, u64::from(reason))?;
+    append(line, b" ")?;
+    append_number(line, alloc, u64::from(place))
+}
+
+fn append_origins(
+    line: &mut Vec<u8>,
+    alloc: Global,
+    conn: u64,
+    taken: u32,
+    skipped: u32,
+) -> Result<(), NoMemory>
+    ensures { OnOk result (line.new.items ≡ line.old.items ++ origins_text conn taken skipped) }
+{
+    append(line, b"origins ")?;
+    append_number(line, alloc, conn)?;
+    append(line, b" ")?;
+    append_number(line, alloc, u64::from(taken))?;
+    append(line, b" ")?;
+    append_number(line, alloc, u64::from(skipped))
+}
+
+fn append_who(
+    line: &mut Vec<u8>,
+    alloc: Global,
+    origin: &Origin,
+    conns: &[u64],
+) -> Result<(), NoMemory>
+    ensures { OnOk result (line.new.items ≡ line.old.items ++ who_text origin.now conns.now) }
+{
+    append(line, b"who ")?;
+    append(line, origin.write(alloc)?.as_slice())?;
+    append_conns(line, alloc, conns)
+}
+
+// Appends the numbers of connections, or that there are none.
+fn append_conns(line: &mut Vec<u8>, alloc: Global, conns: &[u64]) -> Result<(), NoMemory>
+    ensures { OnOk result (line.new.items ≡ line.old.items ++ conns_text conns.now) }
+{
+    match conns {
+        [] => append(line, b" none"),
+        _ => append_numbers(line, alloc, conns),
+    }
+}
+
+// Appends numbers, each behind a space.
+fn append_numbers(line: &mut Vec<u8>, alloc: Global, numbers: &[u64]) -> Result<(), NoMemory>
+    ensures { OnOk result (line.new.items ≡ line.old.items ++ numbers_text numbers.now) }
+{
+    for number in numbers {
+        append(line, b" ")?;
+        append_number(line, alloc, *number)?;
+    }
+    Ok(())
 }

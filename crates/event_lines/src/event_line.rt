@@ -1,5 +1,6 @@
 ghost use Rattle.std.specs.Prelude.{◌≡◌, ◌++◌, IfOk, OnOk};
-ghost use Rattle.event_lines.specs.EventTexts.{proto_text, opened_text, age_text, altsvc_text, response_text, fact_text, event_text};
+ghost use Rattle.event_lines.specs.EventTexts.{proto_text, opened_text, age_text, altsvc_text, response_text, input_text, fact_text, event_text};
+ghost use Rattle.event_lines.specs.HaveLines.{HasText};
 
 use crate::Event;
 use crate::pieces::{append, append_number};
@@ -10,8 +11,10 @@ use route_events::Fact;
 use std::alloc::Global;
 
 /// The line of an event, without a newline: the moment, a space, and what happened, as `read_line` reads it. The line
-/// of a skipped one is empty, whatever the moment.
+/// of a skipped one is empty, whatever the moment. Octets are written in lower-case hex. A frame that came whole has no
+/// line.
 pub fn write_event(alloc: Global, now: Moment, event: &Event) -> Result<Bytes, NoMemory>
+    requires { HasText event.now }
     ensures { IfOk result (λ line. line ≡ event_text now.0 event.now) }
 {
     let mut line = Vec::new(alloc);
@@ -57,8 +60,14 @@ fn append_fact(line: &mut Vec<u8>, alloc: Global, fact: &Fact) -> Result<(), NoM
             age,
             altsvc,
         } => append_response(line, alloc, *request, *status, *age, altsvc),
+        Fact::Input { conn, bytes } => append_input(line, alloc, *conn, bytes.as_slice()),
+        Fact::Delivered { .. } => Ok(()),
         Fact::Network => append(line, b"network"),
         Fact::Tick => append(line, b"tick"),
+        Fact::Who { origin } => {
+            append(line, b"who ")?;
+            append(line, origin.write(alloc)?.as_slice())
+        }
     }
 }
 
@@ -125,6 +134,15 @@ fn append_altsvc(line: &mut Vec<u8>, altsvc: &Option<Bytes>) -> Result<(), NoMem
             append(line, value.as_slice())
         }
     }
+}
+
+fn append_input(line: &mut Vec<u8>, alloc: Global, conn: u64, bytes: &[u8]) -> Result<(), NoMemory>
+    ensures { OnOk result (line.new.items ≡ line.old.items ++ input_text conn bytes.now) }
+{
+    append(line, b"input ")?;
+    append_number(line, alloc, conn)?;
+    append(line, b" ")?;
+    append(line, hex::encode(alloc, bytes)?.as_bytes())
 }
 
 // The name of a protocol.

@@ -1,9 +1,10 @@
 ghost use Rattle.std.specs.Prelude.{◌≡◌, ◌<◌, ◌^◌, length, IfOk};
-ghost use Rattle.event_lines.specs.Fields.{port_of, status_of, proto_of, origin_of, names_of};
+ghost use Rattle.event_lines.specs.Fields.{port_of, status_of, proto_of, origin_of, names_of, octets_of};
 
 use crate::number::number_of;
-use alt_base::{NoMemory, Refused};
+use alt_base::{Bytes, ListOf, NoMemory, Refused};
 use coalescing::{CertNames, parse_names};
+use hex::FromHexError;
 use origin_values::{Origin, Proto};
 use std::alloc::Global;
 
@@ -75,5 +76,19 @@ pub(crate) fn names_of(alloc: Global, text: &[u8]) -> Result<Option<CertNames>, 
         Ok(names) => Ok(Some(names)),
         Err(Refused::NoMemory) => Err(NoMemory),
         Err(Refused::At { .. }) => Ok(None),
+    }
+}
+
+// The octets that hex digits spell, if a text has any and is such digits.
+pub(crate) fn octets_of(alloc: Global, text: &[u8]) -> Result<Option<Bytes>, NoMemory>
+    ensures { IfOk result (λ octets. octets ≡ octets_of text.now) }
+{
+    if text.is_empty() {
+        return Ok(None);
+    }
+    match hex::decode(alloc, text) {
+        Ok(octets) => Ok(Some(ListOf::from_vec(octets))),
+        Err(FromHexError::OutOfMemory) => Err(NoMemory),
+        Err(_) => Ok(None),
     }
 }

@@ -1,4 +1,4 @@
-ghost use Rattle.event_lines.specs.LineReading.{request_fields, opened_fields, failed_fields, closed_fields, response_fields, kind_reading};
+ghost use Rattle.event_lines.specs.LineReading.{request_fields, opened_fields, failed_fields, closed_fields, response_fields, input_fields, who_fields, kind_reading};
 ghost use Rattle.event_lines.specs.Reads.{Reads, MayRead};
 
 use crate::line_reader::LineReader;
@@ -26,10 +26,14 @@ pub(crate) fn read_kind(
         Ok(read_closed(reader)?)
     } else if kind.text == b"response".as_slice() {
         read_response(alloc, reader)
+    } else if kind.text == b"input".as_slice() {
+        read_input(alloc, reader)
     } else if kind.text == b"network".as_slice() {
         Ok(Event::Client(Fact::Network))
     } else if kind.text == b"tick".as_slice() {
         Ok(Event::Client(Fact::Tick))
+    } else if kind.text == b"who".as_slice() {
+        read_who(alloc, reader)
     } else {
         Err(Refused::At {
             place: kind.place,
@@ -94,4 +98,21 @@ fn read_response(alloc: Global, reader: &mut LineReader) -> Result<Event, Refuse
         age: reply.age.unwrap_or(0),
         altsvc: reply.altsvc,
     }))
+}
+
+// `input C HEX`
+fn read_input(alloc: Global, reader: &mut LineReader) -> Result<Event, Refused<LineRefusal>>
+    ensures { MayRead result reader.new (input_fields reader.old) }
+{
+    let conn = reader.long_number()?;
+    let bytes = reader.octets(alloc)?;
+    Ok(Event::Client(Fact::Input { conn, bytes }))
+}
+
+// `who ORIGIN`
+fn read_who(alloc: Global, reader: &mut LineReader) -> Result<Event, Refused<LineRefusal>>
+    ensures { MayRead result reader.new (who_fields reader.old) }
+{
+    let origin = reader.origin(alloc)?;
+    Ok(Event::Client(Fact::Who { origin }))
 }

@@ -2,6 +2,8 @@
 #![tactic(auto)]
 
 mod action_line;
+#[cfg(test)]
+mod action_tests;
 mod event;
 mod event_line;
 mod fields;

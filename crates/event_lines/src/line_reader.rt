@@ -1,6 +1,6 @@
 ghost use Rattle.std.specs.Prelude.{◌≡◌, ◌≤◌, ◌<◌, ◌^◌, length};
 ghost use Rattle.event_lines.specs.Parts.{before_space, first_word, behind_word, next_word, field};
-ghost use Rattle.event_lines.specs.Fields.{number_of, port_of, proto_of, origin_of, names_of};
+ghost use Rattle.event_lines.specs.Fields.{number_of, port_of, proto_of, origin_of, names_of, octets_of};
 ghost use Rattle.event_lines.specs.Limits.{most_short, most_long};
 ghost use Rattle.event_lines.specs.LineReading.{moment_reading, end_reading};
 ghost use Rattle.event_lines.specs.Reads.{Reads, MayRead};
@@ -10,11 +10,11 @@ ghost use Rattle.field_text.specs.Runs.{run_of};
 ghost use Rattle.origin_values.specs.HostReading.{read_addr};
 
 use crate::LineRefusal;
-use crate::fields::{names_of, origin_of, port_of, proto_of, status_of};
+use crate::fields::{names_of, octets_of, origin_of, port_of, proto_of, status_of};
 use crate::number::number_of;
 use crate::part::Part;
 use crate::response::{Reply, read_fields};
-use alt_base::{At, Refused};
+use alt_base::{At, Bytes, Refused};
 use coalescing::CertNames;
 use origin_values::{Addr, Origin, Proto};
 use std::alloc::Global;
@@ -154,6 +154,17 @@ impl<'a> LineReader<'a> {
         let word = self.next_word(LineRefusal::BadField)?;
         match names_of(alloc, word.text)? {
             Some(names) => Ok(names),
+            None => Err(Refused::from(bad_field(word.place))),
+        }
+    }
+
+    // Octets in hex.
+    pub(crate) fn octets(&mut self, alloc: Global) -> Result<Bytes, Refused<LineRefusal>>
+        ensures { MayRead result self.new (field octets_of self.old) }
+    {
+        let word = self.next_word(LineRefusal::BadField)?;
+        match octets_of(alloc, word.text)? {
+            Some(octets) => Ok(octets),
             None => Err(Refused::from(bad_field(word.place))),
         }
     }

@@ -1,7 +1,7 @@
 ghost use Rattle.std.specs.Prelude.{◌≡◌, ◌≤◌, length, IfOk};
 ghost use Rattle.event_lines.specs.LineReading.{is_skipped, line_reading};
 ghost use Rattle.event_lines.specs.Reads.{IsRead};
-ghost use Rattle.event_lines.specs.Valid.{IsEvent};
+ghost use Rattle.event_lines.specs.Valid.{IsEvent, IsShort};
 
 use crate::kinds::read_kind;
 use crate::line_reader::LineReader;
@@ -22,10 +22,13 @@ use std::alloc::Global;
 ///   At most 64 of its fields follow, each behind one tab: a name, a colon, and a value of the bytes 20 to 7E and 80 to FF,
 ///   whose spaces at both ends are dropped (RFC 9110 5). The seconds of the first Age field (RFC 9111 5.1) and the values
 ///   of the Alt-Svc fields (RFC 7838 3), joined by a comma and a space, are kept, and no other field;
+/// - `input C HEX`: octets of the server came on connection C, two hex digits of either case for each, at least one octet;
 /// - `network`: the network changed;
-/// - `tick`: nothing but that time has come so far.
+/// - `tick`: nothing but that time has come so far;
+/// - `who ORIGIN`: which connections are authoritative for an origin is asked.
 ///
-/// A number has no leading zero. Moments and numbers of requests have 32 bits, those of attempts and connections 64.
+/// A number has no leading zero. Moments and numbers of requests have 32 bits, those of attempts and connections 64. No
+/// line says that a frame came whole: the rules make it of octets, of which a line has at most 65,536.
 ///
 /// Refused, with the fields tried from left to right: `BadMoment` at 0 where what stands before the first space is no
 /// moment; `UnknownKind` at the kind, or at the length where it is missing; `BadField` at the first field that isn't of
@@ -35,6 +38,7 @@ pub fn read_line(alloc: Global, line: &[u8]) -> Result<(Moment, Event), Refused<
     requires { length line.now ≤ 65536 }
     ensures reading { IsRead result (line_reading line.now) }
     ensures valid { IfOk result (λ read. IsEvent read.0.0 read.1) }
+    ensures short { IfOk result (λ read. IsShort read.1) }
 {
     if is_skipped(line) {
         return Ok((Moment(0), Event::Skip));

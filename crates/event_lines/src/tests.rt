@@ -1,13 +1,16 @@
+ghost use Rattle.std.specs.Prelude.{IfOk};
+ghost use Rattle.event_lines.specs.HaveLines.{HasText};
+
 use crate::*;
 use alt_base::{Bytes, Duplicate, ListOf, Moment, Refused};
-use altsvc_grammar::{AltKey, AltSvc};
-use origin_values::{Host, Origin, Scheme};
-use route_events::{Action, Route};
+use route_events::Fact;
 use std::alloc::Global;
 use std::test::Fail;
 
 // The moment and the event of a line.
-fn read(alloc: Global, line: &[u8]) -> Result<(Moment, Event), Refused<LineRefusal>> {
+fn read(alloc: Global, line: &[u8]) -> Result<(Moment, Event), Refused<LineRefusal>>
+    ensures { IfOk result (λ read. HasText read.1) }
+{
     read_line(alloc, &line[..line.len().min(1000)])
 }
 
@@ -53,6 +56,12 @@ fn lines_that_are_read(rt: HostRuntime) -> Result<(), Fail> {
             "0 opened 1 other ::1 80 192.0.2.1",
             "0 opened 1 other ::1 80 192.0.2.1",
         ),
+        (
+            "3 input 18446744073709551615 00",
+            "3 input 18446744073709551615 00",
+        ),
+        ("3 input 0 0009fFA0dB", "3 input 0 0009ffa0db"),
+        ("9 who HTTPS://A.example:0443", "9 who https://a.example"),
     ];
     for (line, want) in table {
         let got = written(rt.alloc(), line);
@@ -61,6 +70,15 @@ fn lines_that_are_read(rt: HostRuntime) -> Result<(), Fail> {
             assert_eq!(rt; got.as_slice(), want.as_bytes());
         }
     }
+    Ok(())
+}
+
+#[test]
+fn octets_that_are_read(rt: HostRuntime) -> Result<(), Fail> {
+    let bytes = ListOf::from_vec(Vec::from_slice(rt.alloc(), b"\x0a\xf0")?);
+    let event = Event::Client(Fact::Input { conn: 7, bytes });
+    let got = read(rt.alloc(), b"5 input 7 0aF0");
+    assert!(rt; got.ok() == Some((Moment(5), event)));
     Ok(())
 }
 
@@ -204,6 +222,19 @@ fn lines_that_are_refused(rt: HostRuntime) {
         ("0 failed 1  ", 11, LineRefusal::ExtraField),
         ("0 network ", 10, LineRefusal::ExtraField),
         ("0 network now", 10, LineRefusal::ExtraField),
+        ("0 input", 7, LineRefusal::BadField),
+        ("0 input x 00", 8, LineRefusal::BadField),
+        ("0 input 1", 9, LineRefusal::BadField),
+        ("0 input 1 ", 10, LineRefusal::BadField),
+        ("0 input 1  00", 10, LineRefusal::BadField),
+        ("0 input 1 0", 10, LineRefusal::BadField),
+        ("0 input 1 00010", 10, LineRefusal::BadField),
+        ("0 input 1 000g", 10, LineRefusal::BadField),
+        ("0 input 1 00 ", 13, LineRefusal::ExtraField),
+        ("0 input 1 00 01", 13, LineRefusal::ExtraField),
+        ("0 who", 5, LineRefusal::BadField),
+        ("0 who a.example", 6, LineRefusal::BadField),
+        ("0 who https://a.example ", 24, LineRefusal::ExtraField),
     ];
     for (line, place, reason) in table {
         let got = read(rt.alloc(), line.as_bytes());
@@ -217,114 +248,4 @@ fn lines_that_are_refused(rt: HostRuntime) {
                 reason: LineRefusal::BadField
             })
     );
-}
-
-#[test]
-fn lines_of_actions(rt: HostRuntime) -> Result<(), Fail> {
-    let read = Origin::parse(rt.alloc(), b"http://[::1]:8080");
-    assert!(rt; read.is_ok());
-    if let Ok(origin) = read {
-        let host = origin.host.copy(rt.alloc())?;
-        let actions = [
-            (
-                Action::OpenTo {
-                    attempt: 7,
-                    origin,
-                    route: Route::Direct,
-                },
-                "open 7 http://[::1]:8080 direct http/1.1 [::1] 8080",
-            ),
-            (
-                Action::SendOn {
-                    request: 1,
-                    conn: 2,
-                    stream: Some(3),
-                    alt_used: Some((host, 8443)),
-                },
-                "send 1 on 2 stream 3 alt-used [::1]:8443",
-            ),
-            (
-                Action::SendOn {
-                    request: 4,
-                    conn: 5,
-                    stream: None,
-                    alt_used: Some((Host::V4([192, 0, 2, 1]), 443)),
-                },
-                "send 4 on 5 alt-used 192.0.2.1",
-            ),
-            (Action::Refuse { request: 8 }, "refuse 8"),
-            (Action::Lost { request: 9 }, "lost 9"),
-            (Action::Retry { request: 7 }, "retry 7"),
-        ];
-        for (action, want) in actions {
-            assert_eq!(rt;
-                write_action(rt.alloc(), &action)?.as_slice(),
-                want.as_bytes()
-            );
-        }
-    }
-    Ok(())
-}
-
-// The line of an attempt for an origin of https by an alternative.
-fn opened(
-    alloc: Global,
-    proto: &[u8],
-    host: Option<Host>,
-    port: u16,
-) -> Result<Bytes, Refused<LineRefusal>> {
-    let proto = ListOf::from_vec(Vec::from_slice(alloc, proto)?);
-    let origin = Origin {
-        scheme: Scheme::Https,
-        host: Host::V4([192, 0, 2, 1]),
-        port: 443,
-    };
-    let action = Action::OpenTo {
-        attempt: 7,
-        origin,
-        route: Route::Alt(AltKey { proto, host, port }),
-    };
-    Ok(write_action(alloc, &action)?)
-}
-
-#[test]
-fn lines_of_alternatives(rt: HostRuntime) -> Result<(), Fail> {
-    let other = Some(Host::V4([192, 0, 2, 2]));
-    let by_host = opened(rt.alloc(), b"h3", other, 8443)?;
-    assert_eq!(rt;
-        by_host.as_slice(),
-        b"open 7 https://192.0.2.1 alt h3 192.0.2.2 8443".as_slice()
-    );
-    let own_host = opened(rt.alloc(), b"http/1.1", None, 444)?;
-    assert_eq!(rt;
-        own_host.as_slice(),
-        b"open 7 https://192.0.2.1 alt http/1.1 192.0.2.1 444".as_slice()
-    );
-    let other_proto = opened(rt.alloc(), b"h1", None, 443)?;
-    assert_eq!(rt;
-        other_proto.as_slice(),
-        b"open 7 https://192.0.2.1 alt  192.0.2.1 443".as_slice()
-    );
-    let cleared = Action::Alternatives {
-        origin: Origin {
-            scheme: Scheme::Http,
-            host: Host::V4([192, 0, 2, 1]),
-            port: 8080,
-        },
-        value: AltSvc::Clear,
-    };
-    assert_eq!(rt;
-        write_action(rt.alloc(), &cleared)?.as_slice(),
-        b"alternatives http://192.0.2.1:8080 clear".as_slice()
-    );
-    let ignored = Action::Field {
-        request: 4,
-        reason: 13,
-        place: 0,
-    };
-    assert_eq!(rt;
-        write_action(rt.alloc(), &ignored)?.as_slice(),
-        b"field 4 13 0".as_slice()
-    );
-    Ok(())
 }
