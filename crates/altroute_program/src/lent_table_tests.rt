@@ -1,6 +1,7 @@
 ghost use Rattle.std.specs.Prelude.{◌≡◌, IfOk};
 ghost use Rattle.route_events.specs.Journal.{Journal, newest_moment};
 ghost use Rattle.route_events.specs.Step.{step};
+ghost use Rattle.router_core.specs.Fitting.{IsFit};
 ghost use Rattle.router_core.specs.StandsFor.{StandsFor};
 
 use crate::tests::bytes_of;
@@ -13,6 +14,7 @@ use std::test::Fail;
 
 // The router after a step that is taken.
 fn told(router: Router, now: Moment, fact: Fact) -> Result<Router, NoMemory>
+    requires { IsFit fact }
     ensures stands { IfOk result (λ r. (journal : Journal) → StandsFor router journal → StandsFor r (step journal now.0 fact)) }
     ensures moment { IfOk result (λ r. (journal : Journal) → StandsFor router journal → newest_moment (step journal now.0 fact) ≡ now.0) }
 {

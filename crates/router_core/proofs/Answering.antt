@@ -21,7 +21,7 @@ use Rattle.route_events.specs.declared.connection.Connection.{Connection}
 use Rattle.route_events.specs.Connections.{connections, is_open, open_connections, is_one_of, outstanding, send_count, without}
 use Rattle.route_events.specs.Misdirection.{asks_for, is_misdirected}
 use Rattle.route_events.specs.Alternatives.{alternatives_of}
-use Rattle.route_events.specs.Authority.{is_https, is_success, gives, is_upheld, record_of, is_authoritative}
+use Rattle.route_events.specs.Authority.{is_https, is_success, gives, is_upheld, is_gated, record_of, is_authoritative}
 use Rattle.route_events.specs.Advertisements.{value_of_reading, value_taken, advertisement, field_effects, retries, answer_effects}
 use Rattle.route_events.specs.Advertisements as journal
 use Rattle.route_events.specs.Step.{with_actions}
@@ -128,7 +128,7 @@ misdirected_record request o r =
     cond (is_one_of request r.outstanding) (record { made = r.made; bound = r.bound; gated = r.gated; holds = r.holds; misdirected = λ p. r.misdirected p || origin_eq o p; outstanding = r.outstanding; sends = r.sends }) r
 
 -- a list of origins holds one more
-among_more : (o : Origin) (origins : List Origin) (p : Origin) → is_among (joined origins (o ∷ [])) p ≡ (is_among origins p || origin_eq o p)
+pub among_more : (o : Origin) (origins : List Origin) (p : Origin) → is_among (joined origins (o ∷ [])) p ≡ (is_among origins p || origin_eq o p)
 among_more o origins p = ap (λ ks. is_among ks p) (sym (joined_one origins o (is_among origins o) refl)) ∙ by_test (is_among origins o) refl
   where
     there : (b : Bool) → origin_eq o p ≡ b → is_among origins o ≡ true → is_among origins p ≡ (is_among origins p || b)
@@ -174,7 +174,7 @@ hold_answered t j now request status age altsvc requests x asked hold = record {
     o = x.request.origin
 
     built : (Origin → Bool) → Connection → ConnectionRecord
-    built turned c = record { made = c; bound = is_success c && is_upheld j c; gated = false; holds = (record_of j c).holds; misdirected = turned; outstanding = without request (outstanding j c.number); sends = send_count j c.number }
+    built turned c = record { made = c; bound = is_success c && is_upheld j c; gated = is_gated j c; holds = (record_of j c).holds; misdirected = turned; outstanding = without request (outstanding j c.number); sends = send_count j c.number }
 
     kept_now : nat_eq status 421 ≡ false → (c : Connection) → without_record request (record_of j c) ≡ record_of k c
     kept_now is c = ap (λ b. built (λ p. turned_by b j c.number request p || is_misdirected j c p) c) (sym is)
@@ -223,13 +223,13 @@ rebound_says o value c = by_tests (origin_eq o c.made.origin) (gives (alternativ
     by_tests true false = refl
     by_tests false b = refl
 
-hold_value : (t : Tables) (k : Journal) (o : Origin) (value : AltSvc) → Hold t k →
+pub hold_value : (t : Tables) (k : Journal) (o : Origin) (value : AltSvc) → Hold t k →
     Hold (record { attempts = t.attempts; requests = t.requests; connections = map (rebound o (alternatives_of value)) t.connections }) (Taken (Alternatives o value) ∷ k)
 hold_value t k o value hold = record {
   opened = hold.opened;
   pending = hold.pending;
   connections = changed (rebound o (alternatives_of value)) (rebound_record o value) t.connections k (Taken (Alternatives o value) ∷ k) (open_connections k) (λ c found. rebound_says o value c)
-      (λ x found. λ i. record { made = x; bound = and_swap (not (origin_eq o x.origin) || gives (alternatives_of value) x.route) (is_success x) (is_upheld k x) i; gated = false; holds = (record_of k x).holds; misdirected = is_misdirected k x; outstanding = outstanding k x.number; sends = send_count k x.number })
+      (λ x found. λ i. record { made = x; bound = and_swap (not (origin_eq o x.origin) || gives (alternatives_of value) x.route) (is_success x) (is_upheld k x) i; gated = is_gated k x; holds = (record_of k x).holds; misdirected = is_misdirected k x; outstanding = outstanding k x.number; sends = send_count k x.number })
       hold.connections;
 }
 

@@ -52,7 +52,7 @@ free_at at o r = carrier_at at o r && not (is_occupied r)
 abbrev pub candidate_at : Origin → ConnectionRecord → Candidate
 candidate_at o r = record { conn = r.made.number; basis = cond (rests_on r o) (cond (is_by_alternative r.made.route) ByAlt ByOther) Without }
 
-carriers_are : (j : Journal) (now : ℕ) (o : Origin) → map (record_of j) (carriers j o now) ≡ filter (carrier_at (known_at j now) o) (map (record_of j) (open_connections j))
+pub carriers_are : (j : Journal) (now : ℕ) (o : Origin) → map (record_of j) (carriers j o now) ≡ filter (carrier_at (known_at j now) o) (map (record_of j) (open_connections j))
 carriers_are j now o =
     ap (map (record_of j)) (sym (filter_twice (λ c. carrier_at (known_at j now) o (record_of j c)) (is_open j) (connections j)))
     ∙ sym (filter_map (carrier_at (known_at j now) o) (record_of j) (open_connections j))

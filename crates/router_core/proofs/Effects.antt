@@ -13,12 +13,12 @@ use Rattle.origin_values.specs.declared.proto.Proto.{Proto}
 use Rattle.origin_values.specs.declared.address.Addr.{Addr}
 use Rattle.route_events.specs.declared.fact.Fact.{Fact}
 use Rattle.route_events.specs.declared.fact.Fact.TheVariants as fact
-use Rattle.route_events.specs.declared.action.Action.TheVariants.{Lost}
+use Rattle.route_events.specs.declared.action.Action.TheVariants.{Lost, Close}
 use Rattle.route_events.specs.declared.route.Route.{Route}
 use Rattle.route_events.specs.declared.request.Request.{Request}
 use Rattle.route_events.specs.declared.attempt.Attempt.{Attempt}
 use Rattle.route_events.specs.declared.connection.Connection.{Connection}
-use Rattle.route_events.specs.Journal.{Happened, Taken, Journal}
+use Rattle.route_events.specs.Journal.{Happened, Cut, Taken, Journal}
 use Rattle.route_events.specs.Attempts.{attempts, has_ended, pending, pending_attempt}
 use Rattle.route_events.specs.Requests.{Standing, Waits, OutOn, Over, requests, request_of, newest_number, standing, waits, is_out, waiting, sent_to}
 use Rattle.route_events.specs.Dispatch.{or_else}
@@ -26,7 +26,8 @@ use Rattle.route_events.specs.Connections.{connections, closes, is_open, open_co
 use Rattle.altsvc_grammar.specs.declared.alt.Alt.{Alt}
 use Rattle.route_events.specs.Misdirection.{is_misdirected}
 use Rattle.route_events.specs.Alternatives.{live}
-use Rattle.route_events.specs.Authority.{route_eq, is_success, gives, is_upheld, is_initial}
+use Rattle.route_events.specs.Authority.{route_eq, is_success, gives, is_upheld}
+use Rattle.route_events.specs.OriginSets.{lists, came_on, is_gated, is_initial}
 use Rattle.route_events.specs.Routes.{was_tried}
 use Rattle.route_events.specs.Step.{with_actions}
 use Rattle.route_events.proofs.Lists.{IsIn, nat_eq-flip, nat_eq-below, in_filter, filter_same, filter_same_in, filter_end, filter_twice}
@@ -48,10 +49,6 @@ use Rattle.router_core.specs.Effects.{made_of, begun_of}
 use Rattle.router_core.proofs.Applying.{tried_taken, tried_append}
 use Rattle.router_core.proofs.Choosing.{among_is}
 use Rattle.router_core.proofs.LeftOut.{out_moved, without_more, none_left_out, known_number}
-
-or_none : (b : Bool) → (b || false) ≡ b
-or_none true = refl
-or_none false = refl
 
 or_not : (a b : Bool) → not (a || b) ≡ (not b && not a)
 or_not true true = refl
@@ -184,7 +181,7 @@ hold_ended t j now m requests hold = record {
 begun_is : (live_now : Origin → List Alt) (j : Journal) (now m : ℕ) (c : Connection) (p : Proto) (d : Addr) (port : ℕ) (names : List CertName) → c.number ≡ m → Sound j → has_ended j m ≡ false → ((o : Origin) → live_now o ≡ live j o now) →
     said (begun_of live_now c) ≡ record_of (Happened now (fact.Opened m p d port names) true ∷ j) c
 begun_is live_now j now m c p d port names numbered sound fresh sees =
-    λ i. record { made = c; bound = is_success c && bound_now i; gated = false; holds = λ o. or_none (is_initial c o) i; misdirected = λ o. not (sym own i) && is_misdirected j c o; outstanding = none i; sends = never i }
+    λ i. record { made = c; bound = is_success c && bound_now i; gated = not (sym own i) && is_gated j c; holds = λ o. is_initial c o || (not (sym own i) && came_on (lists c o) j c); misdirected = λ o. not (sym own i) && is_misdirected j c o; outstanding = none i; sends = never i }
   where
     own : nat_eq m c.number ≡ true
     own = ap (λ n. nat_eq m n) numbered ∙ eq_self m
@@ -211,7 +208,7 @@ others_kept j now m p d port names sound fresh =
         by_test true e = absurd (true≢false (sym (sound.ended x found) ∙ ap (has_ended j) (sym (true_eq m x.number e)) ∙ fresh))
 
     same : (x : Connection) → nat_eq m x.number ≡ false → record_of j x ≡ record_of (Happened now (fact.Opened m p d port names) true ∷ j) x
-    same x e = λ i. record { made = x; bound = is_success x && cond (sym e i) (gives (live j x.origin now) x.route) (is_upheld j x); gated = false; holds = (record_of j x).holds; misdirected = λ o. not (sym e i) && is_misdirected j x o; outstanding = outstanding j x.number; sends = send_count j x.number }
+    same x e = λ i. record { made = x; bound = is_success x && cond (sym e i) (gives (live j x.origin now) x.route) (is_upheld j x); gated = not (sym e i) && is_gated j x; holds = λ o. is_initial x o || (not (sym e i) && came_on (lists x o) j x); misdirected = λ o. not (sym e i) && is_misdirected j x o; outstanding = outstanding j x.number; sends = send_count j x.number }
 
 pub hold_opened : (live_now : Origin → List Alt) (t : Tables) (j : Journal) (now m : ℕ) (a : Attempt) (p : Proto) (d : Addr) (port : ℕ) (names : List CertName) (requests : RequestTable) → Sound j → ((o : Origin) → live_now o ≡ live j o now) → pending_attempt j m ≡ Some a → a.number ≡ m → has_ended j m ≡ false → Hold t j →
     Hold (record { attempts = without_attempt a.number t.attempts; requests = requests; connections = t.connections ++ begun_of live_now (made_of a p d port names) ∷ [] }) (Happened now (fact.Opened m p d port names) true ∷ j)
@@ -247,6 +244,12 @@ opened_closed j now c =
     filter_same (is_open (Happened now (fact.Closed c) true ∷ j)) (λ (x : Connection). is_open j x && not (nat_eq c x.number)) (connections j) (λ x. or_not (nat_eq c x.number) (list_any (closes x.number) j))
     ∙ sym (filter_twice (λ (x : Connection). not (nat_eq c x.number)) (is_open j) (connections j))
 
+-- the same, where its octets are cut
+pub opened_cut : (j : Journal) (now c count : ℕ) → open_connections (Taken (Close c count) ∷ Cut now c count ∷ j) ≡ filter (λ (x : Connection). not (nat_eq c x.number)) (open_connections j)
+opened_cut j now c count =
+    filter_same (is_open (Taken (Close c count) ∷ Cut now c count ∷ j)) (λ (x : Connection). is_open j x && not (nat_eq c x.number)) (connections j) (λ x. or_not (nat_eq c x.number) (list_any (closes x.number) j))
+    ∙ sym (filter_twice (λ (x : Connection). not (nat_eq c x.number)) (is_open j) (connections j))
+
 -- what was outstanding on it
 pub out_on_is : (t : Tables) (j : Journal) (c : ℕ) → Hold t j → is_open_number j c ≡ true → out_on (connection_among t.connections c) ≡ outstanding j c
 out_on_is t j c hold h =
@@ -278,7 +281,7 @@ hold_lost t j q nowhere hold = record {
   opened = hold.opened;
   pending = hold.pending;
   connections = hold.connections ∙ map_same_in (record_of j) (record_of (Taken (Lost q) ∷ j)) (open_connections j)
-      (λ x found. λ i. record { made = x; bound = is_success x && is_upheld j x; gated = false; holds = (record_of j x).holds; misdirected = is_misdirected j x; outstanding = sym (without_none q (outstanding j x.number) (nowhere x found)) i; sends = send_count j x.number });
+      (λ x found. λ i. record { made = x; bound = is_success x && is_upheld j x; gated = is_gated j x; holds = (record_of j x).holds; misdirected = is_misdirected j x; outstanding = sym (without_none q (outstanding j x.number) (nowhere x found)) i; sends = send_count j x.number });
 }
 
 lost_waits : (q n : ℕ) (w : Option Standing) → (nat_eq q n ≡ true → waits w ≡ false) → waits (option_map_or Some (cond (nat_eq q n) (Some Over) None) w) ≡ waits w
@@ -355,26 +358,44 @@ loses_all t j (q ∷ qs) hold h =
     }
 
 -- what was outstanding on a connection that ended is outstanding on no open one
-pub nowhere_else : (j : Journal) (now c q : ℕ) → Sound j → IsIn q (outstanding j c) → IsNowhere (Happened now (fact.Closed c) true ∷ j) q × (waits (standing j q) ≡ false)
-nowhere_else j now c q sound out = (other, ap waits (sound.out_stands c q out))
+ended_nowhere : (j k : Journal) (c q : ℕ) → open_connections k ≡ filter (λ (x : Connection). not (nat_eq c x.number)) (open_connections j) → ((n : ℕ) → outstanding k n ≡ outstanding j n) → Sound j → IsIn q (outstanding j c) →
+    IsNowhere k q × (waits (standing j q) ≡ false)
+ended_nowhere j k c q others same_out sound out = (other, ap waits (sound.out_stands c q out))
   where
     conn_of : Option Standing → ℕ
     conn_of (Some (OutOn n)) = n
     conn_of _ = 0
 
-    other : IsNowhere (Happened now (fact.Closed c) true ∷ j) q
+    other : IsNowhere k q
     other x there elsewhere =
-        let apart = in_filter (λ (x : Connection). not (nat_eq c x.number)) x (open_connections j) (subst (IsIn x) (opened_closed j now c) there) in
-        let same : c ≡ x.number = ap conn_of (sym (sound.out_stands c q out) ∙ sound.out_stands x.number q elsewhere) in
+        let apart = in_filter (λ (x : Connection). not (nat_eq c x.number)) x (open_connections j) (subst (IsIn x) others there) in
+        let same : c ≡ x.number = ap conn_of (sym (sound.out_stands c q out) ∙ sound.out_stands x.number q (subst (IsIn q) (same_out x.number) elsewhere)) in
         true≢false (sym (eq_self x.number) ∙ ap (λ n. nat_eq n x.number) (sym same) ∙ not-true (nat_eq c x.number) apart.1)
+
+pub nowhere_else : (j : Journal) (now c q : ℕ) → Sound j → IsIn q (outstanding j c) → IsNowhere (Happened now (fact.Closed c) true ∷ j) q × (waits (standing j q) ≡ false)
+nowhere_else j now c q sound out = ended_nowhere j (Happened now (fact.Closed c) true ∷ j) c q (opened_closed j now c) (λ n. refl) sound out
+
+pub nowhere_after_cut : (j : Journal) (now c count q : ℕ) → Sound j → IsIn q (outstanding j c) → IsNowhere (Taken (Close c count) ∷ Cut now c count ∷ j) q × (waits (standing j q) ≡ false)
+nowhere_after_cut j now c count q sound out = ended_nowhere j (Taken (Close c count) ∷ Cut now c count ∷ j) c q (opened_cut j now c count) (λ n. refl) sound out
+
+-- the table without the connection says what the journal says of the others
+others_held : (t : Tables) (j : Journal) (c : ℕ) → Hold t j → map said (other_connections t.connections c) ≡ map (record_of j) (filter (λ (x : Connection). not (nat_eq c x.number)) (open_connections j))
+others_held t j c hold =
+    sym (filter_map (λ (r : ConnectionRecord). not (nat_eq c r.made.number)) said t.connections)
+    ∙ ap (filter (λ (r : ConnectionRecord). not (nat_eq c r.made.number))) hold.connections
+    ∙ filter_map (λ (r : ConnectionRecord). not (nat_eq c r.made.number)) (record_of j) (open_connections j)
 
 pub hold_closed : (t : Tables) (j : Journal) (now c : ℕ) (requests : RequestTable) → Hold t j → Hold (record { attempts = t.attempts; requests = requests; connections = other_connections t.connections c }) (Happened now (fact.Closed c) true ∷ j)
 hold_closed t j now c requests hold = record {
   opened = hold.opened;
   pending = hold.pending;
-  connections =
-      sym (filter_map (λ (r : ConnectionRecord). not (nat_eq c r.made.number)) said t.connections)
-      ∙ ap (filter (λ (r : ConnectionRecord). not (nat_eq c r.made.number))) hold.connections
-      ∙ filter_map (λ (r : ConnectionRecord). not (nat_eq c r.made.number)) (record_of j) (open_connections j)
-      ∙ ap (map (record_of j)) (sym (opened_closed j now c));
+  connections = others_held t j c hold ∙ ap (map (record_of j)) (sym (opened_closed j now c));
+}
+
+pub hold_cut : (t : Tables) (j : Journal) (now c count : ℕ) (requests : RequestTable) → Hold t j →
+    Hold (record { attempts = t.attempts; requests = requests; connections = other_connections t.connections c }) (Taken (Close c count) ∷ Cut now c count ∷ j)
+hold_cut t j now c count requests hold = record {
+  opened = hold.opened;
+  pending = hold.pending;
+  connections = others_held t j c hold ∙ ap (map (record_of j)) (sym (opened_cut j now c count));
 }

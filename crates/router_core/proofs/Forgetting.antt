@@ -1,21 +1,28 @@
 -- What may be forgotten: a router that stands for a history stands for each one that is alike.
-use Rattle.std.proofs.Common.{◌≡◌, ℕ, zero, suc, List, [], ◌∷◌, map, Some, is_some, All, refl, ap, sym, ◌∙◌, subst, arith}
+use Rattle.std.proofs.Common.{◌≡◌, ℕ, ◌+◌, zero, suc, true, inl, inr, nat_eq, List, [], ◌∷◌, map, find, length, Some, None, is_some, All, refl, ap, sym, ◌∙◌, subst, arith}
 use Rattle.alt_base.proofs.Booleans.{one_truth}
 use Rattle.route_choice.specs.Capped.{capped}
 use Rattle.route_events.specs.declared.connection.Connection.{Connection}
 use Rattle.route_events.specs.Journal.{Journal}
 use Rattle.route_events.specs.Requests.{standing, is_out}
-use Rattle.route_events.specs.Connections.{open_connections}
+use Rattle.frame_readers.specs.declared.readers.ReaderOf.{ReaderOf}
+use Rattle.frame_readers.specs.Readers.{Reads, reader_among, skipped_of}
+use Rattle.h2_framing.specs.Streams.{too_large_of}
+use Rattle.route_events.specs.Connections.{open_connections, is_open_number}
+use Rattle.route_events.specs.Frames.{octets_on}
 use Rattle.route_events.specs.Records.{ConnectionRecord}
 use Rattle.route_events.specs.Authority.{record_of}
 use Rattle.route_events.specs.Step.{IsRun}
-use Rattle.route_events.specs.Alike.{SameRecord, SameTries, SameOutstanding, Alike}
+use Rattle.route_events.specs.Alike.{SameRecord, SameTries, SameOutstanding, SameUnfinished, Alike}
+use Rattle.route_events.proofs.GoingOn.{open_goes_on}
 use Rattle.route_events.proofs.Later.{alike_live, alike_failures}
+use Rattle.route_events.proofs.Lists.{IsIn}
+use Rattle.route_events.proofs.Sound.{IsOpened, opened_of}
 use Rattle.request_dispatch.specs.declared.outstanding.Outstanding.{Outstanding}
 use Rattle.request_dispatch.specs.declared.waiting.Waiting.{Waiting}
 use Rattle.request_dispatch.specs.RequestTable.{request_among, requests_of}
 use Rattle.router_core.specs.declared.router.Router.{Router}
-use Rattle.router_core.specs.Holds.{AreTried, IsOut, AreOut}
+use Rattle.router_core.specs.Holds.{AreTried, IsOut, AreOut, AreRead}
 use Rattle.router_core.specs.StandsFor.{StandsFor}
 
 same_record : (a b : ConnectionRecord) → SameRecord a b → a ≡ b
@@ -58,6 +65,37 @@ same_out j k outs alike are = record {
       tried = λ r. was.tried r ∙ same.tried x.request was.request r;
     }
 
+of_all : {X : Type 0} (P : X → Type 0) (x : X) (xs : List X) → IsIn x xs → All P xs → P x
+of_all P x [] found h = absurd found
+of_all P x (y ∷ ys) (inl same) h = subst P (sym same) (first_of_all P y ys h)
+of_all P x (y ∷ ys) (inr more) h = of_all P x ys more (rest_of_all P y ys h)
+
+-- the same frame is unfinished in both, and no head was too large
+reads_alike : (rs : List ReaderOf) (j k : Journal) (n : ℕ) → SameUnfinished j k n → too_large_of (octets_on k n) ≡ None → Reads rs n (octets_on j n) → Reads rs n (octets_on k n)
+reads_alike rs j k n same going was = record {
+  keeps = record {
+    part = was.keeps.part ∙ same.held;
+    counted = ap (λ held. length held + skipped_of (reader_among rs n)) (sym same.held) ∙ was.keeps.counted ∙ same.count;
+  };
+  going = going;
+}
+
+same_read : (rs : List ReaderOf) (j k : Journal) → Alike j k → IsRun k → AreRead j rs → AreRead k rs
+same_read rs j k alike run are = record {
+  octets = λ n h. of_number n h (opened_of j n (open_too n ∙ h)) (opened_of k n h);
+  no_other = λ n h. are.no_other n (open_too n ∙ h);
+}
+  where
+    open_too : (n : ℕ) → is_open_number j n ≡ is_open_number k n
+    open_too n = ap (λ cs. is_some (find (λ (c : Connection). nat_eq c.number n) cs)) alike.connections
+
+    of_number : (n : ℕ) → is_open_number k n ≡ true → IsOpened j n → IsOpened k n → Reads rs n (octets_on k n)
+    of_number n h in_j in_k =
+        reads_alike rs j k n
+        (subst (SameUnfinished j k) in_j.numbered (of_all (λ (c : Connection). SameUnfinished j k c.number) in_j.connection (open_connections j) in_j.there alike.unfinished))
+        (subst (λ m. too_large_of (octets_on k m) ≡ None) in_k.numbered (of_all (λ (c : Connection). too_large_of (octets_on k c.number) ≡ None) in_k.connection (open_connections k) in_k.there (open_goes_on k run)))
+        (are.octets n (open_too n ∙ h))
+
 pub forgets : (router : Router) (j k : Journal) → StandsFor router j → Alike j k → IsRun k → StandsFor router k
 forgets router j k stands alike run = record {
   run = run;
@@ -72,6 +110,7 @@ forgets router j k stands alike run = record {
   waiting = stands.waiting ∙ alike.waiting;
   tried = same_tried j k router.tables.requests.waiting (subst (All (SameTries j k)) (sym stands.waiting) alike.tried) stands.tried;
   outstanding = same_out j k router.tables.requests.outstanding alike stands.outstanding;
+  readers = same_read router.readers j k alike run stands.readers;
   alternatives = λ o now h. stands.alternatives o now (omega (arith, h, alike.moment)) ∙ alike_live j k o now alike (omega (arith, h, alike.moment));
   none_ended = stands.none_ended;
   failures = λ o key. stands.failures o key ∙ ap capped (alike_failures j k o key alike);

@@ -1,6 +1,7 @@
 -- What a step notes of failures and alternatives is what the journal says from then on.
 use Rattle.std.proofs.Common.{◌≡◌, ℕ, ◌+◌, Bool, true, false, cond, not, ◌&&◌, List, [], ◌∷◌, map, filter, Option, Some, None, refl, ap, sym, ◌∙◌, arith, min}
 use Rattle.coalescing.specs.declared.cert_name.CertName.{CertName}
+use Rattle.h2_framing.specs.declared.head.Head.{Head}
 use Rattle.origin_values.specs.Equality.{origin_eq}
 use Rattle.origin_values.specs.declared.address.Addr.{Addr}
 use Rattle.origin_values.specs.declared.origin.Origin.{Origin}
@@ -15,7 +16,7 @@ use Rattle.route_choice.specs.Capped.{capped}
 use Rattle.route_events.specs.declared.fact.Fact.{Fact}
 use Rattle.route_events.specs.declared.fact.Fact.TheVariants as fact
 use Rattle.route_events.specs.declared.action.Action.{Action}
-use Rattle.route_events.specs.declared.action.Action.TheVariants.{Lost, Retry, Alternatives, Field}
+use Rattle.route_events.specs.declared.action.Action.TheVariants.{Lost, Retry, Alternatives, Field, Ignored, Origins}
 use Rattle.route_events.specs.declared.route.Route.{Route}
 use Rattle.route_events.specs.declared.attempt.Attempt.{Attempt}
 use Rattle.route_events.specs.Journal.{Happened, Taken, Journal}
@@ -26,6 +27,7 @@ use Rattle.route_events.specs.Backoff.{Failures, no_failures, failed_at, failure
 use Rattle.route_events.specs.Connections.{outstanding, answered_in}
 use Rattle.route_events.specs.Requests.{standing, is_out}
 use Rattle.route_events.specs.Misdirection.{gives_up}
+use Rattle.route_events.specs.FrameAdvertisements.{frame_effects}
 use Rattle.route_events.specs.Step.{with_actions, effects}
 use Rattle.route_events.proofs.Lists.{filter_same, filter_twice}
 use Rattle.route_events.proofs.Sound.{Sound}
@@ -36,11 +38,12 @@ use Rattle.request_dispatch.proofs.Listing.{filter_map}
 use Rattle.router_core.specs.Holds.{Hold, AreOut}
 use Rattle.router_core.specs.Notes.{failure_noted, opening_noted, failures_noted, given_up, spared, value_noted, kept_after}
 use Rattle.router_core.proofs.Answering.{IsAnswer, answer_is}
+use Rattle.router_core.proofs.Delivering.{IsFrameAnswer, frame_answer}
 use Rattle.router_core.proofs.GivingUp.{is_given, given_up_is}
 
 -- failures
 
-failures_with : (j : Journal) (as' : List Action) (o : Origin) (r : Route) → failures (with_actions j as') o r ≡ failures j o r
+pub failures_with : (j : Journal) (as' : List Action) (o : Origin) (r : Route) → failures (with_actions j as') o r ≡ failures j o r
 failures_with j [] o r = refl
 failures_with j (a ∷ as') o r = failures_with (Taken a ∷ j) as' o r
 
@@ -74,13 +77,16 @@ noted_capped t j now (fact.Failed m) o r fs hold =
     ap (λ as'. failure_noted now (attempt_among as' m) o r (capped fs)) hold.pending ∙ failing_capped j now m o r fs (pending_attempt j m) refl
 noted_capped t j now (fact.Closed c) o r fs hold = refl
 noted_capped t j now (fact.Response q status age altsvc) o r fs hold = refl
+noted_capped t j now (fact.Input c bytes) o r fs hold = refl
+noted_capped t j now (fact.Delivered c head payload) o r fs hold = refl
 noted_capped t j now fact.Network o r fs hold = refl
 noted_capped t j now fact.Tick o r fs hold = refl
+noted_capped t j now (fact.Who p) o r fs hold = refl
 
-pub failures_noted_are : (t : Tables) (j : Journal) (now : ℕ) (f : Fact) (o : Origin) (r : Route) (fs : Failures) → Hold t j → fs ≡ capped (failures j o r) →
-    failures_noted t.attempts.pending now f o r fs ≡ capped (failures (with_actions (Happened now f true ∷ j) (effects j now f)) o r)
-failures_noted_are t j now f o r fs hold e =
-    ap (failures_noted t.attempts.pending now f o r) e ∙ noted_capped t j now f o r (failures j o r) hold ∙ ap capped (sym (failures_with (Happened now f true ∷ j) (effects j now f) o r))
+pub failures_noted_are : (t : Tables) (j : Journal) (now : ℕ) (f : Fact) (h : Bool) (o : Origin) (r : Route) (fs : Failures) → Hold t j → fs ≡ capped (failures j o r) →
+    failures_noted t.attempts.pending now f o r fs ≡ capped (failures (with_actions (Happened now f h ∷ j) (effects j now f)) o r)
+failures_noted_are t j now f h o r fs hold e =
+    ap (failures_noted t.attempts.pending now f o r) e ∙ noted_capped t j now f o r (failures j o r) hold ∙ ap capped (sym (failures_with (Happened now f h ∷ j) (effects j now f) o r))
 
 -- alternatives
 
@@ -126,36 +132,48 @@ spared_are (Some g) o ks = by_test (origin_eq o g.0)
     by_test true = refl
     by_test false = sym (all_pass ks)
 
-lost_live : (j : Journal) (qs : List ℕ) (o : Origin) (at : ℕ) → live (with_actions j (map Lost qs)) o at ≡ live j o at
+pub lost_live : (j : Journal) (qs : List ℕ) (o : Origin) (at : ℕ) → live (with_actions j (map Lost qs)) o at ≡ live j o at
 lost_live j [] o at = refl
 lost_live j (q ∷ qs) o at = lost_live (Taken (Lost q) ∷ j) qs o at
 
-answered_live : (j : Journal) (now q status age : ℕ) (altsvc : Option (List ℕ)) (o : Origin) (at : ℕ) (ks : List Kept) (as' : List Action) → IsAnswer as' → fresh_alts at ks ≡ live (Happened now (fact.Response q status age altsvc) true ∷ j) o at →
-    fresh_alts at (value_noted now age as' o ks) ≡ live (with_actions (Happened now (fact.Response q status age altsvc) true ∷ j) as') o at
-answered_live j now q status age altsvc o at ks [] h e = e
-answered_live j now q status age altsvc o at ks (Field r reason place ∷ []) h e = e
-answered_live j now q status age altsvc o at ks (Alternatives p value ∷ []) h e = by_test (origin_eq p o) refl
-  where
-    by_test : (b : Bool) → origin_eq p o ≡ b → fresh_alts at (cond (origin_eq o p) (map (taken_at now age) (alternatives_of value)) ks) ≡ cond b (filter (journal.is_fresh now age at) (alternatives_of value)) (live (Happened now (fact.Response q status age altsvc) true ∷ j) o at)
-    by_test true is = rw (turned p o is) (taken_fresh now age at (alternatives_of value))
-    by_test false is = rw (turned_not p o is) e
-answered_live j now q status age altsvc o at ks (Retry r ∷ []) h e = e
-answered_live j now q status age altsvc o at ks (Retry r ∷ Field n reason place ∷ []) h e = e
-answered_live j now q status age altsvc o at ks _ h e = absurd h
+-- a value that is taken for an origin, or for another one
+value_live : (now age at : ℕ) (p o : Origin) (ks : List Kept) (alts was : List Alt) (b : Bool) → origin_eq p o ≡ b → fresh_alts at ks ≡ was →
+    fresh_alts at (cond (origin_eq o p) (map (taken_at now age) alts) ks) ≡ cond b (filter (journal.is_fresh now age at) alts) was
+value_live now age at p o ks alts was true is e = rw (turned p o is) (taken_fresh now age at alts)
+value_live now age at p o ks alts was false is e = rw (turned_not p o is) e
+
+answered_live : (j : Journal) (now q status age : ℕ) (altsvc : Option (List ℕ)) (h : Bool) (o : Origin) (at : ℕ) (ks : List Kept) (as' : List Action) → IsAnswer as' → fresh_alts at ks ≡ live (Happened now (fact.Response q status age altsvc) h ∷ j) o at →
+    fresh_alts at (value_noted now age as' o ks) ≡ live (with_actions (Happened now (fact.Response q status age altsvc) h ∷ j) as') o at
+answered_live j now q status age altsvc h o at ks [] answer e = e
+answered_live j now q status age altsvc h o at ks (Field r reason place ∷ []) answer e = e
+answered_live j now q status age altsvc h o at ks (Alternatives p value ∷ []) answer e =
+    value_live now age at p o ks (alternatives_of value) (live (Happened now (fact.Response q status age altsvc) h ∷ j) o at) (origin_eq p o) refl e
+answered_live j now q status age altsvc h o at ks (Retry r ∷ []) answer e = e
+answered_live j now q status age altsvc h o at ks (Retry r ∷ Field n reason place ∷ []) answer e = e
+answered_live j now q status age altsvc h o at ks _ answer e = absurd answer
+
+-- a frame has no age
+frame_live : (j : Journal) (now c : ℕ) (head : Head) (payload : List ℕ) (h : Bool) (o : Origin) (at : ℕ) (ks : List Kept) (as' : List Action) → IsFrameAnswer as' → fresh_alts at ks ≡ live j o at →
+    fresh_alts at (value_noted now 0 as' o ks) ≡ live (with_actions (Happened now (fact.Delivered c head payload) h ∷ j) as') o at
+frame_live j now c head payload h o at ks [] answer e = e
+frame_live j now c head payload h o at ks (Alternatives p value ∷ []) answer e = value_live now 0 at p o ks (alternatives_of value) (live j o at) (origin_eq p o) refl e
+frame_live j now c head payload h o at ks (Ignored n kind reason place ∷ []) answer e = e
+frame_live j now c head payload h o at ks (Origins n taken skipped ∷ []) answer e = e
+frame_live j now c head payload h o at ks _ answer e = absurd answer
 
 lost_noted : (now age : ℕ) (qs : List ℕ) (o : Origin) (ks : List Kept) → value_noted now age (map Lost qs) o ks ≡ ks
 lost_noted now age [] o ks = refl
 lost_noted now age (q ∷ qs) o ks = refl
 
-pub live_noted : (t : Tables) (j : Journal) (now : ℕ) (f : Fact) (o : Origin) (at : ℕ) (ks : List Kept) → Sound j → Hold t j → AreOut j t.requests.outstanding →
+pub live_noted : (t : Tables) (j : Journal) (now : ℕ) (f : Fact) (h : Bool) (o : Origin) (at : ℕ) (ks : List Kept) → Sound j → Hold t j → AreOut j t.requests.outstanding →
     ((q : ℕ) → answered_in f ≡ Some q → is_out (standing j q) ≡ true) → fresh_alts at ks ≡ live j o at →
-    fresh_alts at (value_noted now (age_in f) (effects j now f) o (spared (given_up t f) o (kept_after f ks))) ≡ live (with_actions (Happened now f true ∷ j) (effects j now f)) o at
-live_noted t j now (fact.Request n p) o at ks sound hold outs out e = e
-live_noted t j now (fact.Opened m p d port names) o at ks sound hold outs out e = e
-live_noted t j now (fact.Failed m) o at ks sound hold outs out e = e
-live_noted t j now (fact.Closed c) o at ks sound hold outs out e =
-    ap (fresh_alts at) (lost_noted now 0 (outstanding j c) o ks) ∙ e ∙ sym (lost_live (Happened now (fact.Closed c) true ∷ j) (outstanding j c) o at)
-live_noted t j now (fact.Response q status age altsvc) o at ks sound hold outs out e =
+    fresh_alts at (value_noted now (age_in f) (effects j now f) o (spared (given_up t f) o (kept_after f ks))) ≡ live (with_actions (Happened now f h ∷ j) (effects j now f)) o at
+live_noted t j now (fact.Request n p) h o at ks sound hold outs out e = e
+live_noted t j now (fact.Opened m p d port names) h o at ks sound hold outs out e = e
+live_noted t j now (fact.Failed m) h o at ks sound hold outs out e = e
+live_noted t j now (fact.Closed c) h o at ks sound hold outs out e =
+    ap (fresh_alts at) (lost_noted now 0 (outstanding j c) o ks) ∙ e ∙ sym (lost_live (Happened now (fact.Closed c) h ∷ j) (outstanding j c) o at)
+live_noted t j now (fact.Response q status age altsvc) h o at ks sound hold outs out e =
     let f : Fact = fact.Response q status age altsvc in
     let g : Option (Origin × AltKey) = given_up t f in
     let left : fresh_alts at (spared g o ks) ≡ filter (λ (a : Alt). not (gives_up j o f a.key)) (live j o at) =
@@ -163,6 +181,9 @@ live_noted t j now (fact.Response q status age altsvc) o at ks sound hold outs o
     ∙ tested_fresh (λ a. not (is_given g o a.key)) at ks
     ∙ filter_same (λ (a : Alt). not (is_given g o a.key)) (λ (a : Alt). not (gives_up j o f a.key)) (fresh_alts at ks) (λ a. ap not (given_up_is t j q status age altsvc o a.key sound hold outs (out q refl)))
     ∙ ap (filter (λ (a : Alt). not (gives_up j o f a.key))) e in
-    answered_live j now q status age altsvc o at (spared g o ks) (effects j now f) (answer_is j now q status altsvc) left
-live_noted t j now fact.Network o at ks sound hold outs out e = tested_fresh (λ a. a.persist) at ks ∙ ap (filter (λ (a : Alt). a.persist)) e
-live_noted t j now fact.Tick o at ks sound hold outs out e = e
+    answered_live j now q status age altsvc h o at (spared g o ks) (effects j now f) (answer_is j now q status altsvc) left
+live_noted t j now (fact.Input c bytes) h o at ks sound hold outs out e = e
+live_noted t j now (fact.Delivered c head payload) h o at ks sound hold outs out e = frame_live j now c head payload h o at ks (frame_effects j now c head payload) (frame_answer j now c head payload) e
+live_noted t j now fact.Network h o at ks sound hold outs out e = tested_fresh (λ a. a.persist) at ks ∙ ap (filter (λ (a : Alt). a.persist)) e
+live_noted t j now fact.Tick h o at ks sound hold outs out e = e
+live_noted t j now (fact.Who p) h o at ks sound hold outs out e = e

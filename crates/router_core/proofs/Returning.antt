@@ -5,17 +5,20 @@ use Rattle.route_events.specs.declared.fact.Fact.{Fact}
 use Rattle.route_events.specs.declared.fact.Fact.TheVariants as fact
 use Rattle.route_events.specs.declared.action.Action.{Action}
 use Rattle.route_events.specs.declared.request.Request.{Request}
-use Rattle.route_events.specs.Journal.{Happened, Taken, Journal}
+use Rattle.route_events.specs.Journal.{Entry, Happened, Cut, Taken, Journal}
 use Rattle.route_events.specs.Requests.{Waits, requests, standing, waits, waiting}
-use Rattle.route_events.specs.Step.{IsRun, Begun, Stepped, refusal, effects, with_actions, with_fact}
+use Rattle.route_events.specs.Dispatch.{dispatch}
+use Rattle.route_events.specs.Frames.{octets_on, deliveries}
+use Rattle.route_events.specs.Step.{IsRun, Begun, Stepped, refusal, effects, cut_effects, part_effects, with_actions, with_part, with_fact, settle, settled, follow, answer_to, step}
 use Rattle.route_events.proofs.Lists.{IsIn, in_filter, filter_same_in, in_append_one, nat_eq-flip, nat_eq-below}
-use Rattle.route_events.proofs.Sound.{Sound, sound_fact, above_newest}
-use Rattle.route_events.proofs.Settles.{effected}
-use Rattle.route_events.proofs.Runs.{each, all_settled, are_effects}
+use Rattle.route_events.proofs.Sound.{Sound, above_newest}
+use Rattle.route_events.proofs.Parts.{IsBehind, AreBehind, all_behind}
+use Rattle.route_events.proofs.Runs.{each}
 use Rattle.request_dispatch.specs.declared.waiting.Waiting.{Waiting}
 use Rattle.request_dispatch.specs.RequestTable.{requests_of, placed}
 use Rattle.router_core.specs.Holds.{AreTried}
 use Rattle.router_core.proofs.SettlingSo.{HasTried}
+use Rattle.router_core.proofs.Coming.{IsFrame, Comes}
 use Rattle.alt_base.proofs.Numbers.{lt_true, eq_self}
 
 -- requests in the order of their numbers
@@ -39,20 +42,58 @@ rise_fact j now (fact.Opened m p d port names) sound free rise = rise
 rise_fact j now (fact.Failed m) sound free rise = rise
 rise_fact j now (fact.Closed c) sound free rise = rise
 rise_fact j now (fact.Response q status age altsvc) sound free rise = rise
+rise_fact j now (fact.Input c bytes) sound free rise = rise
+rise_fact j now (fact.Delivered c head payload) sound free rise = rise
 rise_fact j now fact.Network sound free rise = rise
 rise_fact j now fact.Tick sound free rise = rise
+rise_fact j now (fact.Who o) sound free rise = rise
 
 requests_with : (j : Journal) (as' : List Action) → requests (with_actions j as') ≡ requests j
 requests_with j [] = refl
 requests_with j (a ∷ as') = requests_with (Taken a ∷ j) as'
 
+-- a part of a step
+pub rise_part : (j : Journal) (now : ℕ) (f : Fact) (h : Bool) → Sound j → Comes j now f h → AreRising (requests j) → AreRising (requests (with_part j now (Happened now f h)))
+rise_part j now f h sound comes rise = subst AreRising (sym (requests_with (Happened now f h ∷ j) (effects j now f))) (by_coming comes)
+  where
+    by_frame : (f : Fact) → IsFrame f → AreRising (requests (Happened now f h ∷ j))
+    by_frame (fact.Delivered c head payload) is = rise
+    by_frame _ is = absurd is
+
+    by_coming : Comes j now f h → AreRising (requests (Happened now f h ∷ j))
+    by_coming (inl frame) = by_frame f frame
+    by_coming (inr handed) = rise_fact j now f sound handed.1 rise
+
+pub rise_cut : (j : Journal) (now c count : ℕ) → AreRising (requests j) → AreRising (requests (with_part j now (Cut now c count)))
+rise_cut j now c count rise = subst AreRising (sym (requests_with (Cut now c count ∷ j) (cut_effects j c count))) rise
+
+-- a whole step adds the request of its own fact
+requests_settle : (j : Journal) (now : ℕ) (qs : List Request) → requests (settle j now qs) ≡ requests j
+requests_settle j now [] = refl
+requests_settle j now (q ∷ qs) = requests_settle (with_actions j (dispatch j q now)) now qs ∙ requests_with j (dispatch j q now)
+
+requests_settled : (j : Journal) (now : ℕ) (part : Entry) → requests (settled (with_part j now part) now) ≡ requests (part ∷ j)
+requests_settled j now part = requests_settle (with_part j now part) now (waiting (with_part j now part)) ∙ requests_with (part ∷ j) (part_effects j now part)
+
+requests_behind : (j : Journal) (now conn : ℕ) (part : Entry) → IsBehind now conn part → requests (part ∷ j) ≡ requests j
+requests_behind j now conn (Happened moment (fact.Delivered to head payload) false) behind = refl
+requests_behind j now conn (Cut moment to count) behind = refl
+requests_behind j now conn _ behind = absurd behind
+
+requests_follow : (j : Journal) (now conn : ℕ) (parts : List Entry) → AreBehind now conn parts → requests (follow j now parts) ≡ requests j
+requests_follow j now conn [] behind = refl
+requests_follow j now conn (part ∷ parts) behind =
+    requests_follow (settled (with_part j now part) now) now conn parts behind.1 ∙ requests_settled j now part ∙ requests_behind j now conn part behind.0
+
+pub requests_step : (j : Journal) (now : ℕ) (f : Fact) → requests (step j now f) ≡ requests (Happened now f true ∷ j)
+requests_step j now (fact.Input conn bytes) =
+    requests_follow (settled (with_fact j now (fact.Input conn bytes)) now) now conn (deliveries now conn (octets_on j conn) bytes) (all_behind now conn (octets_on j conn) bytes)
+    ∙ requests_settled j now (Happened now (fact.Input conn bytes) true)
+requests_step j now f = requests_with (settled (with_fact j now f) now) (answer_to (settled (with_fact j now f) now) now f) ∙ requests_settled j now (Happened now f true)
+
 pub requests_rise : {j : Journal} → IsRun j → AreRising (requests j)
 requests_rise Begun = tt
-requests_rise (Stepped j now f was free) =
-    let sound : Sound j = (each was).sound in
-    let done = effected (Happened now f true ∷ j) (effects j now f) (are_effects j now f) in
-    let all = all_settled (with_fact j now f) now (done.sound (sound_fact j now f free sound)) done.moment in
-    subst AreRising (sym (all.quiet.requests_same ∙ requests_with (Happened now f true ∷ j) (effects j now f))) (rise_fact j now f sound free (requests_rise was))
+requests_rise (Stepped j now f was free) = subst AreRising (sym (requests_step j now f)) (rise_fact j now f (each was).sound free (requests_rise was))
 
 -- the place of a request among those that wait
 

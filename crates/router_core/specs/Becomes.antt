@@ -1,43 +1,63 @@
 -- What a step makes of a router, by what it keeps.
-use Rattle.std.specs.Prelude.{◌≡◌, ℕ, ◌+◌, List, [], filter}
+use Rattle.std.specs.Prelude.{◌≡◌, ℕ, List, [], ◌∷◌, Option, Some, None, length, drop}
 use Rattle.origin_values.specs.declared.origin.Origin.{Origin}
-use Rattle.network_cache.specs.declared.cache.Cache.{Cache}
 use Rattle.network_cache.specs.Contents.{kept}
-use Rattle.network_cache.specs.Freshness.{is_fresh}
 use Rattle.route_choice.specs.Contents.{kept_failures}
+use Rattle.h2_framing.specs.declared.frame.Frame.{Frame}
+use Rattle.h2_framing.specs.declared.frame.Frame.TheVariants.{Kept, Passed}
 use Rattle.route_events.specs.declared.fact.Fact.{Fact}
+use Rattle.route_events.specs.declared.fact.Fact.TheVariants.{Delivered}
 use Rattle.route_events.specs.declared.action.Action.{Action}
 use Rattle.altsvc_grammar.specs.declared.alt_key.AltKey.{AltKey}
 use Rattle.route_events.specs.declared.route.Route.TheVariants.{Alt}
 use Rattle.route_events.specs.Alternatives.{age_in}
-use Rattle.router_core.specs.declared.router.Router.{Router}
+use Rattle.router_core.specs.declared.course.Course.{Course}
 use Rattle.request_dispatch.specs.declared.step_state.StepState.{StepState}
 use Rattle.request_dispatch.specs.Looks.{Look, live_at, look_of}
 use Rattle.request_dispatch.specs.StepStates.{settled}
-use Rattle.router_core.specs.Reasons.{newest_after}
 use Rattle.router_core.specs.Notes.{failures_noted, given_up, spared, value_noted, kept_after}
-use Rattle.router_core.specs.Effects.{with_effect}
-
--- the state of a step as it begins
-abbrev pub begun : Router → StepState
-begun router = record { tables = router.tables; actions = [] }
+use Rattle.router_core.specs.Effects.{with_effect, cut_so}
 
 -- the state after a fact and its effect
-abbrev pub after_effect : Router → ℕ → Fact → StepState
-after_effect router now fact = with_effect (live_at router.alternatives now) (begun router) fact
+abbrev pub after_effect : Course → ℕ → Fact → StepState
+after_effect course now fact = with_effect (live_at course.alternatives now) course.state fact
+
+-- the actions of the effect
+abbrev pub done_by : Course → ℕ → Fact → List Action
+done_by course now fact = drop (length course.state.actions) (after_effect course now fact).actions
 
 -- the state after settling, in which the router saw these alternatives and failures
-abbrev pub stepped : Router → Look → ℕ → Fact → StepState
-stepped router look now fact = settled look (after_effect router now fact)
+abbrev pub stepped : Course → Look → ℕ → Fact → StepState
+stepped course look now fact = settled look (after_effect course now fact)
 
-pub record Becomes (old new : Router) (actions : List Action) (now : ℕ) (fact : Fact) : Type 0 where
-  pub facts : new.facts ≡ old.facts + 1
-  pub last : new.last ≡ now
-  pub newest : new.newest ≡ newest_after old.newest fact
+-- what a fact makes of the course
+pub record Becomes (old new : Course) (now : ℕ) (fact : Fact) : Type 0 where
   -- failures are noted, and the value that was taken, before the requests are settled
-  pub failures : (o : Origin) (key : AltKey) → kept_failures new.broken o (Alt key) ≡ failures_noted old.tables.attempts.pending now fact o (Alt key) (kept_failures old.broken o (Alt key))
-  pub seen : Cache
-  pub noted : (o : Origin) → kept seen o ≡ value_noted now (age_in fact) (after_effect old now fact).actions o (spared (given_up old.tables fact) o (kept_after fact (kept old.alternatives o)))
-  pub purged : (o : Origin) → kept new.alternatives o ≡ filter (is_fresh now) (kept seen o)
-  pub tables : new.tables ≡ (stepped old (look_of seen new.broken now) now fact).tables
-  pub written : actions ≡ (stepped old (look_of seen new.broken now) now fact).actions
+  pub failures : (o : Origin) (key : AltKey) → kept_failures new.broken o (Alt key) ≡ failures_noted old.state.tables.attempts.pending now fact o (Alt key) (kept_failures old.broken o (Alt key))
+  pub alternatives : (o : Origin) → kept new.alternatives o ≡ value_noted now (age_in fact) (done_by old now fact) o (spared (given_up old.state.tables fact) o (kept_after fact (kept old.alternatives o)))
+  pub state : new.state ≡ stepped old (look_of new.alternatives new.broken now) now fact
+
+-- what the cut of a connection's octets makes of it
+pub record CutBecomes (old new : Course) (now conn length : ℕ) : Type 0 where
+  pub broken : new.broken ≡ old.broken
+  pub alternatives : new.alternatives ≡ old.alternatives
+  pub state : new.state ≡ settled (look_of old.alternatives old.broken now) (cut_so old.state conn length)
+
+-- each ALTSVC and ORIGIN frame is a fact of its own
+abbrev pub Delivers : ℕ → ℕ → Course → List Frame → Course → Type 0
+Delivers now conn old [] new = new ≡ old
+Delivers now conn old (Kept head payload ∷ frames) new = (mid : Course) × Becomes old mid now (Delivered conn head payload) × Delivers now conn mid frames new
+Delivers now conn old (Passed head ∷ frames) new = Delivers now conn old frames new
+
+-- and then comes the cut, where a head gives a length that is too large
+abbrev pub Cuts : ℕ → ℕ → Course → Option ℕ → Course → Type 0
+Cuts now conn old None new = new ≡ old
+Cuts now conn old (Some length) new = CutBecomes old new now conn length
+
+-- what the parts of a fact make of it, one after the other: the fact, the frames that its octets end, and the cut
+pub record Follows (old new : Course) (now : ℕ) (fact : Fact) (conn : ℕ) (frames : List Frame) (too_large : Option ℕ) : Type 0 where
+  pub begun : Course
+  pub begins : Becomes old begun now fact
+  pub delivered : Course
+  pub delivers : Delivers now conn begun frames delivered
+  pub cuts : Cuts now conn delivered too_large new

@@ -9,13 +9,12 @@ use Rattle.origin_values.specs.declared.address.Addr.{Addr}
 use Rattle.origin_values.specs.declared.origin.Origin.{Origin}
 use Rattle.origin_values.specs.declared.proto.Proto.{Proto}
 use Rattle.route_events.specs.declared.fact.Fact.{Fact}
-use Rattle.route_events.specs.declared.fact.Fact.TheVariants.{Request, Opened, Failed, Closed, Response, Network, Tick}
+use Rattle.route_events.specs.declared.fact.Fact.TheVariants.{Request, Opened, Failed, Closed, Response, Input, Delivered, Network, Tick, Who}
 use Rattle.route_events.specs.declared.action.Action.{Action}
-use Rattle.route_events.specs.declared.action.Action.TheVariants.{Lost, Alternatives, Field}
+use Rattle.route_events.specs.declared.action.Action.TheVariants.{Close, Lost, Field}
 use Rattle.route_events.specs.declared.attempt.Attempt.{Attempt}
 use Rattle.route_events.specs.declared.connection.Connection.{Connection}
 use Rattle.route_events.specs.declared.request.Request.{Request as RequestValue}
-use Rattle.route_events.specs.Alternatives.{alternatives_of}
 use Rattle.route_events.specs.Authority.{is_https, is_success, gives}
 use Rattle.route_events.specs.Advertisements.{value_taken, retries}
 use Rattle.request_dispatch.specs.declared.outstanding.Outstanding.{Outstanding}
@@ -23,9 +22,11 @@ use Rattle.request_dispatch.specs.declared.step_state.StepState.{StepState}
 use Rattle.request_dispatch.specs.AttemptTable.{attempt_among, without_attempt}
 use Rattle.request_dispatch.specs.RequestTable as requests
 use Rattle.request_dispatch.specs.RequestTable.{RequestTable, request_among, after_end, lost, sent_back}
-use Rattle.request_dispatch.specs.ConnectionTable.{begun, connection_among, other_connections, out_on, misdirected_by, rebound}
+use Rattle.request_dispatch.specs.ConnectionTable.{begun, connection_among, other_connections, out_on, misdirected_by}
 use Rattle.request_dispatch.specs.Carriers.{is_answered_by_authority}
 use Rattle.request_dispatch.specs.Looks.{no_address}
+use Rattle.router_core.specs.FrameEffects.{delivered_so}
+use Rattle.router_core.specs.Rebinding.{rebound_by}
 
 -- an attempt ends: it isn't pending any more, and each request of its origin has tried its route
 abbrev pub with_end : StepState → Attempt → StepState
@@ -66,6 +67,10 @@ closed s conn = record {
   actions = s.actions ++ map Lost (out_on (connection_among s.tables.connections conn));
 }
 
+-- a connection was cut: it is closed, and what was outstanding on it is lost (RFC 9113 4.2)
+abbrev pub cut_so : StepState → ℕ → ℕ → StepState
+cut_so s conn length = closed (record { tables = s.tables; actions = s.actions ++ Close conn length ∷ [] }) conn
+
 -- a request arrives
 abbrev pub arrived : StepState → ℕ → Origin → StepState
 arrived s number origin = record {
@@ -94,11 +99,6 @@ abbrev pub misdirected_for : ℕ → ℕ → Option Outstanding → List Record 
 misdirected_for request status None connections = connections
 misdirected_for request status (Some x) connections = if nat_eq status 421 then map (misdirected_by request x.request.origin) connections else connections
 
--- a value that was taken, for the connections
-abbrev pub rebound_by : List Action → List Record → List Record
-rebound_by (Alternatives origin value ∷ actions) connections = map (rebound origin (alternatives_of value)) connections
-rebound_by _ connections = connections
-
 -- the request ends, or waits again where the server says that it isn't the origin's (RFC 9110 15.5.20)
 abbrev pub after_answer : ℕ → ℕ → RequestTable → RequestTable
 after_answer request status t = if nat_eq status 421 then sent_back request t else lost (request ∷ []) t
@@ -126,5 +126,8 @@ with_effect live s (Opened attempt proto addr port names) = opened live s (attem
 with_effect live s (Failed attempt) = ended s (attempt_among s.tables.attempts.pending attempt)
 with_effect live s (Closed conn) = closed s conn
 with_effect live s (Response request status age altsvc) = answered s request status altsvc
+with_effect live s (Input conn bytes) = s
+with_effect live s (Delivered conn head payload) = delivered_so s conn head payload
 with_effect live s Network = s
 with_effect live s Tick = s
+with_effect live s (Who origin) = s

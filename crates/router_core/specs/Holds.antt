@@ -1,10 +1,13 @@
 -- Which tables hold what a journal says.
-use Rattle.std.specs.Prelude.{◌≡◌, ℕ, List, [], ◌∷◌, Some, length, map, is_some}
+use Rattle.std.specs.Prelude.{◌≡◌, ℕ, true, false, List, [], ◌∷◌, Some, None, length, map, is_some}
 use Rattle.route_events.specs.declared.route.Route.{Route}
 use Rattle.route_events.specs.Journal.{Journal}
 use Rattle.route_events.specs.Attempts.{attempts, pending}
 use Rattle.route_events.specs.Requests.{standing, is_out, request_of, sent_to}
-use Rattle.route_events.specs.Connections.{open_connections}
+use Rattle.frame_readers.specs.declared.readers.ReaderOf.{ReaderOf}
+use Rattle.frame_readers.specs.Readers.{Reads, reader_among}
+use Rattle.route_events.specs.Connections.{open_connections, is_open_number}
+use Rattle.route_events.specs.Frames.{octets_on}
 use Rattle.route_events.specs.Authority.{record_of}
 use Rattle.route_events.specs.Routes.{was_tried}
 use Rattle.route_choice.specs.Usable.{is_listed}
@@ -37,3 +40,8 @@ pub record IsOut (journal : Journal) (n : ℕ) (x : Outstanding) : Type 0 where
 pub record AreOut (journal : Journal) (outs : List Outstanding) : Type 0 where
   pub out : (n : ℕ) → is_some (request_among outs n) ≡ is_out (standing journal n)
   pub known : (n : ℕ) (x : Outstanding) → request_among outs n ≡ Some x → IsOut journal n x
+
+-- of each open connection the readers have read the octets that came on it, and there is no reader of another number
+pub record AreRead (journal : Journal) (readers : List ReaderOf) : Type 0 where
+  pub octets : (n : ℕ) → is_open_number journal n ≡ true → Reads readers n (octets_on journal n)
+  pub no_other : (n : ℕ) → is_open_number journal n ≡ false → reader_among readers n ≡ None

@@ -1,7 +1,12 @@
 pub mod Holds
+pub mod Fitting
+pub mod Rebinding
+pub mod FrameEffects
 pub mod Effects
 pub mod Notes
 pub mod Reasons
 pub mod StandsFor
 pub mod Lent
 pub mod Becomes
+pub mod Asking
+pub mod StepBecomes

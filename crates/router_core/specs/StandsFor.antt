@@ -19,7 +19,7 @@ use Rattle.request_dispatch.specs.RequestTable.{requests_of}
 use Rattle.router_core.specs.declared.router.Router.{Router}
 use Rattle.router_core.specs.declared.fault.StepFault.{StepFault}
 use Rattle.router_core.specs.declared.fault.StepFault.TheVariants.{NoMemory, Refused}
-use Rattle.router_core.specs.Holds.{Hold, AreTried, AreOut}
+use Rattle.router_core.specs.Holds.{Hold, AreTried, AreOut, AreRead}
 
 pub record StandsFor (router : Router) (journal : Journal) : Type 0 where
   -- the journal is one that a run gives
@@ -34,6 +34,8 @@ pub record StandsFor (router : Router) (journal : Journal) : Type 0 where
   pub waiting : requests_of router.tables.requests.waiting ≡ waiting journal
   pub tried : AreTried journal router.tables.requests.waiting
   pub outstanding : AreOut journal router.tables.requests.outstanding
+  -- of each open connection, the unfinished frame behind the octets that came on it
+  pub readers : AreRead journal router.readers
   -- at each moment from the newest on, the live alternatives of each origin; none that has ended is kept
   pub alternatives : (o : Origin) (now : ℕ) → newest_moment journal ≤ now → live router.alternatives o now ≡ journal_live journal o now
   pub none_ended : (o : Origin) → filter (is_fresh router.last) (kept router.alternatives o) ≡ kept router.alternatives o

@@ -4,7 +4,8 @@ ghost use Rattle.altsvc_grammar.specs.ValueReading.{read_value};
 ghost use Rattle.route_events.specs.Advertisements.{value_of_reading, value_taken, retries};
 ghost use Rattle.request_dispatch.specs.RequestTable.{request_among};
 ghost use Rattle.request_dispatch.specs.ConnectionTable.{misdirected_by};
-ghost use Rattle.router_core.specs.Effects.{advertised, field_done, answer_done, misdirected_for, rebound_by, after_answer, answered_so, answered};
+ghost use Rattle.router_core.specs.Effects.{advertised, field_done, answer_done, misdirected_for, after_answer, answered_so, answered};
+ghost use Rattle.router_core.specs.Rebinding.{rebound_by};
 
 use crate::misdirection::MISDIRECTED;
 use alt_base::{Bytes, Duplicate, ListOf, NoMemory, Refused};
@@ -159,7 +160,7 @@ fn misdirect_for(
 }
 
 // A value that was taken, for the connections.
-fn rebind_by(actions: &[Action], connections: &mut Connections)
+pub(crate) fn rebind_by(actions: &[Action], connections: &mut Connections)
     ensures { connections.new ≡ rebound_by actions.now connections.old }
 {
     if let Some(Action::Alternatives { origin, value }) = actions.first() {
@@ -186,7 +187,7 @@ fn end_or_send_back(
     Ok(())
 }
 
-fn append_actions(actions: &mut Actions, more: Actions) -> Result<(), NoMemory>
+pub(crate) fn append_actions(actions: &mut Actions, more: Actions) -> Result<(), NoMemory>
     ensures { OnOk result (actions.new ≡ actions.old ++ more) }
 {
     for action in more.into_vec() {

@@ -3,9 +3,11 @@ ghost use Rattle.network_cache.specs.Contents.{newest_moment};
 ghost use Rattle.route_events.specs.declared.action.Action.TheVariants.{Lost as LostAction};
 ghost use Rattle.request_dispatch.specs.AttemptTable.{attempt_among};
 ghost use Rattle.request_dispatch.specs.Looks.{live_at};
-ghost use Rattle.router_core.specs.Effects.{arrived, ended, opened, closed, with_effect, with_end, with_connection};
+ghost use Rattle.router_core.specs.Fitting.{IsFit};
+ghost use Rattle.router_core.specs.Effects.{arrived, ended, opened, closed, cut_so, with_effect, with_end, with_connection};
 
 use crate::answer::answer;
+use crate::frame::deliver;
 use alt_base::{Duplicate, Moment, NoMemory};
 use coalescing::CertNames;
 use network_cache::Cache;
@@ -111,6 +113,19 @@ fn close(alloc: Global, state: &mut StepState, conn: u64) -> Result<(), NoMemory
     Ok(())
 }
 
+/// A connection was cut, where a head gave a length that is too large: it is closed.
+pub(crate) fn cut_off(
+    alloc: Global,
+    state: &mut StepState,
+    conn: u64,
+    length: u32,
+) -> Result<(), NoMemory>
+    ensures { OnOk result (state.new ≡ cut_so state.old conn length) }
+{
+    state.actions.push(Action::Close { conn, length })?;
+    close(alloc, state, conn)
+}
+
 /// The effect of a fact.
 pub(crate) fn take_fact(
     alloc: Global,
@@ -119,7 +134,8 @@ pub(crate) fn take_fact(
     state: &mut StepState,
     fact: Fact,
 ) -> Result<(), NoMemory>
-    requires { newest_moment cache.now ≤ now.0 }
+    requires known { newest_moment cache.now ≤ now.0 }
+    requires fit { IsFit fact }
     ensures { OnOk result (state.new ≡ with_effect (live_at cache.now now.0) state.old fact) }
 {
     match fact {
@@ -151,6 +167,11 @@ pub(crate) fn take_fact(
             age: _,
             altsvc,
         } => answer(alloc, state, request, status, altsvc),
-        Fact::Network | Fact::Tick => Ok(()),
+        Fact::Delivered {
+            conn,
+            head,
+            payload,
+        } => deliver(alloc, state, conn, head, payload.as_slice()),
+        Fact::Input { .. } | Fact::Network | Fact::Tick | Fact::Who { .. } => Ok(()),
     }
 }

@@ -2,11 +2,15 @@
 #![tactic(auto)]
 
 mod answer;
+mod course;
 mod effect;
 mod fault;
+mod frame;
 mod laws;
 mod misdirection;
 mod notes;
+mod octets;
+mod question;
 mod reason;
 mod router;
 

@@ -1,11 +1,14 @@
 ghost use Rattle.std.specs.Prelude.{◌≡◌, is_some, if◌then◌else◌};
-ghost use Rattle.router_core.specs.Reasons.{reason_of_fact, reason_of, newest_after};
+ghost use Rattle.std.specs.Option.{option_copied};
+ghost use Rattle.route_events.specs.Connections.{is_h2};
+ghost use Rattle.router_core.specs.Reasons.{frame_reason, reason_of_fact, reason_of, newest_after};
 ghost use Rattle.request_dispatch.specs.AttemptTable.{attempt_among};
 ghost use Rattle.request_dispatch.specs.ConnectionTable.{connection_among};
 ghost use Rattle.request_dispatch.specs.RequestTable.{request_among};
 
 use alt_base::Moment;
-use request_dispatch::Tables;
+use origin_values::Proto;
+use request_dispatch::{OpenConnection, Tables};
 use route_events::{Fact, StepRefusal};
 
 /// The most facts that one router takes.
@@ -39,6 +42,25 @@ fn is_open(tables: &Tables, conn: u64) -> bool
     tables.connections.of_number(conn).is_some()
 }
 
+fn is_h2(proto: Proto) -> bool
+    ensures { result ≡ is_h2 proto }
+{
+    match proto {
+        Proto::H2 => true,
+        _ => false,
+    }
+}
+
+// Why octets or a frame don't come on a connection.
+fn frame_reason(connection: Option<&OpenConnection>) -> Option<StepRefusal>
+    ensures { result ≡ frame_reason (option_copied connection.entry) }
+{
+    match connection {
+        None => Some(StepRefusal::NoSuchConn),
+        Some(connection) => unless(is_h2(connection.made().proto), StepRefusal::NotFramed),
+    }
+}
+
 fn is_outstanding(tables: &Tables, request: u32) -> bool
     ensures { result ≡ is_some (request_among tables.now.requests.outstanding request) }
 {
@@ -64,7 +86,10 @@ fn reason_of_fact(newest: u32, tables: &Tables, fact: &Fact) -> Option<StepRefus
         Fact::Response { request, .. } => {
             unless(is_outstanding(tables, *request), StepRefusal::NoSuchRequest)
         }
-        Fact::Network | Fact::Tick => None,
+        Fact::Input { conn, .. } | Fact::Delivered { conn, .. } => {
+            frame_reason(tables.connections.of_number(*conn))
+        }
+        Fact::Network | Fact::Tick | Fact::Who { .. } => None,
     }
 }
 

@@ -1,4 +1,4 @@
-ghost use Rattle.std.specs.Prelude.{◌≡◌, ◌≤◌, ◌<◌, ◌+◌, ◌*◌, [], ℕ, length, is_some, IfSome, IfOk, IfErr};
+ghost use Rattle.std.specs.Prelude.{◌≡◌, ◌≤◌, ◌<◌, ◌+◌, ◌*◌, ◌^◌, [], ℕ, length, is_some, IfSome, IfOk, IfErr};
 ghost use Rattle.network_cache.specs.Contents.{newest_moment};
 ghost use Rattle.route_choice.specs.Contents.{newest_moment as newest_failure};
 ghost use Rattle.std.specs.Option.{option_copied, option_map};
@@ -7,16 +7,15 @@ ghost use Rattle.request_dispatch.specs.OpenConnections.{record_lent};
 ghost use Rattle.request_dispatch.specs.RequestTable.{request_among};
 
 use crate::StepFault;
-use crate::effect::take_fact;
-use crate::misdirection::{given_up, note_given_up};
-use crate::notes::{age_in, is_change, note_change, note_failures, note_value};
+use crate::course::{Course, begin, follow};
+use crate::octets::read_octets;
+use crate::question::{answer_question, asked_in};
 use crate::reason::{newest_after, reason_of};
-use alt_base::{ListOf, Moment};
+use alt_base::Moment;
+use frame_readers::Readers;
 use network_cache::Cache;
 use origin_values::Origin;
-use request_dispatch::{
-    Attempts, Connections, Lent, OpenConnection, Requests, StepState, Tables, settle,
-};
+use request_dispatch::{Attempts, Connections, Lent, OpenConnection, Requests, StepState, Tables};
 use route_choice::Broken;
 use route_events::{Actions, Fact};
 use std::alloc::Global;
@@ -31,9 +30,10 @@ pub struct Router {
     tables: Tables,
     alternatives: Cache,
     broken: Broken,
+    readers: Readers,
     ghost bounded: { facts ≤ 16777215 },
     ghost few_sends: { most_sends tables.connections + length tables.requests.waiting ≤ facts },
-    ghost few_attempts: { tables.attempts.opened ≤ facts * 16777216 },
+    ghost few_attempts: { tables.attempts.opened ≤ facts * 2 ^ 38 },
     ghost alternatives_known: { newest_moment alternatives ≤ last },
     ghost failures_known: { newest_failure broken ≤ last },
 }
@@ -66,7 +66,8 @@ impl Router {
     ghost use Rattle.route_events.specs.Journal.{Journal, newest_moment as newest_step};
     ghost use Rattle.route_events.specs.Step.{step};
     ghost use Rattle.route_events.specs.Headline.{SendsOnlyOn, RefusesOnlyWhere, WaitsOnlyFor};
-    ghost use Rattle.router_core.specs.Becomes.{Becomes};
+    ghost use Rattle.router_core.specs.Fitting.{IsFit};
+    ghost use Rattle.router_core.specs.StepBecomes.{StepBecomes};
     ghost use Rattle.route_events.specs.Connections.{is_open_number};
     ghost use Rattle.router_core.specs.Lent.{outstanding_origin, IsLent};
     ghost use Rattle.router_core.specs.Reasons.{reason_of};
@@ -88,6 +89,7 @@ impl Router {
             },
             alternatives: Cache::new(alloc),
             broken: Broken::new(alloc),
+            readers: Readers::new(alloc),
         }
     }
 
@@ -97,9 +99,11 @@ impl Router {
     ///
     /// A step is refused where 16,777,215 facts were taken, where the moment is before that of the newest step, where a
     /// request's number isn't above the newest request's, where an attempt that ends isn't pending, where a connection
-    /// that ends isn't open, and where a request that is answered isn't outstanding, tried in this order; the router comes
-    /// back as it was. After NoMemory it is gone.
+    /// that ends, or on which octets or a frame come, isn't open, where such a connection isn't one of HTTP/2, and where a
+    /// request that is answered isn't outstanding, tried in this order; the router comes back as it was. After NoMemory it
+    /// is gone. At most 65,536 octets come at once, and the payload of a frame has at most 16,384 (RFC 9113 4.2).
     pub fn step(self, now: Moment, fact: Fact) -> Result<(Router, Actions), StepFault>
+        requires { IsFit fact }
         ensures taken { IfOk result (λ r. (journal : Journal) → StandsFor self journal → Takes r.0 r.1 journal now.0 fact) }
         ensures refused { IfErr result (λ fault. Refuses self now.0 fact fault) }
 
@@ -154,35 +158,36 @@ impl Router {
 
     // A step that isn't refused.
     fn take(self, now: Moment, fact: Fact) -> Result<(Router, Actions), StepFault>
-        requires { reason_of self.facts self.last self.newest self.tables now.0 fact ≡ None }
-        ensures ok { IfOk result (λ r. Becomes self r.0 r.1 now.0 fact) }
+        requires free { reason_of self.facts self.last self.newest self.tables now.0 fact ≡ None }
+        requires fit { IsFit fact }
+        ensures ok { IfOk result (λ r. StepBecomes self r.0 r.1 now.0 fact) }
         ensures err { IfErr result (λ fault. fault ≡ StepFault.NoMemory) }
     {
         let newest = newest_after(self.newest, &fact);
-        let age = age_in(&fact);
-        let changed = is_change(&fact);
         let Router {
             alloc,
             facts,
             last: _,
             newest: _,
             tables,
-            mut alternatives,
-            mut broken,
+            alternatives,
+            broken,
+            mut readers,
         } = self;
-        let mut state = StepState {
-            tables,
-            actions: ListOf::new(alloc),
-        };
-        let given_up = given_up(alloc, &state.tables, &fact)?;
-        note_failures(&mut broken, now, &state.tables.attempts, &fact)?;
-        take_fact(alloc, &alternatives, now, &mut state, fact)?;
-        note_change(&mut alternatives, changed);
-        note_given_up(&mut alternatives, &given_up);
-        note_value(alloc, &mut alternatives, now, age, state.actions.as_slice())?;
-        settle(alloc, &alternatives, &broken, now, &mut state)?;
+        let asked = asked_in(alloc, &fact)?;
+        let octets = read_octets(alloc, &mut readers, &fact)?;
+        let begun = begin(alloc, tables, alternatives, broken);
+        let Course {
+            state,
+            mut alternatives,
+            broken,
+        } = follow(alloc, begun, now, fact, octets)?;
         alternatives.purge(now);
-        let StepState { tables, actions } = state;
+        let StepState {
+            tables,
+            mut actions,
+        } = state;
+        answer_question(alloc, &tables, &mut actions, asked)?;
         Ok((
             Router {
                 alloc,
@@ -192,6 +197,7 @@ impl Router {
                 tables,
                 alternatives,
                 broken,
+                readers,
             },
             actions,
         ))

@@ -4,7 +4,8 @@ use Rattle.route_events.specs.Step.{Begun}
 use Rattle.request_dispatch.specs.AttemptTable.{AttemptTable}
 use Rattle.conn_states.specs.Said.{said}
 use Rattle.request_dispatch.specs.RequestTable.{RequestTable, requests_of}
-use Rattle.router_core.specs.Holds.{AreTried, AreOut}
+use Rattle.router_core.specs.Holds.{AreTried, AreOut, AreRead}
+use Rattle.router_core.proofs.ReadersAfter.{none_read}
 use Rattle.router_core.proofs.Noting.{fresh_alts}
 use Rattle.router_core.proofs.SettlingSo.{none_out}
 use Rattle.router_core.proofs.router.Router.new.Goals as goal
@@ -19,6 +20,7 @@ returns c = record {
   waiting = ap (λ (t : RequestTable). requests_of t.waiting) c.new-2.ensures;
   tried = subst (λ (t : RequestTable). AreTried [] t.waiting) (sym c.new-2.ensures) tt;
   outstanding = subst (λ (t : RequestTable). AreOut [] t.outstanding) (sym c.new-2.ensures) none_out;
+  readers = subst (AreRead []) (sym c.new-6.ensures) none_read;
   alternatives = λ o at h. ap (fresh_alts at) (c.new-4.ensures.nothing o);
   none_ended = λ o. ap (filter (is_fresh 0)) (c.new-4.ensures.nothing o) ∙ sym (c.new-4.ensures.nothing o);
   failures = λ o key. c.new-5.ensures.nothing o _;

@@ -1,6 +1,7 @@
 use Rattle.std.proofs.Common.{refl, sym, ◌∙◌}
 use Rattle.route_events.proofs.Runs.{all_wait}
-use Rattle.router_core.proofs.Steps.{reason_is, step_stands, step_runs, sends_only, refuses_only, ok_map, ok_always}
+use Rattle.router_core.proofs.Steps.{reason_is, step_runs, sends_only, refuses_only, ok_map, ok_always}
+use Rattle.router_core.proofs.WholeSteps.{step_stands}
 use Rattle.router_core.proofs.router.Router.step.Goals as goal
 
 pub returns-in-Some-clause-refused : goal.returns-in-Some-clause-refused
