@@ -5,3 +5,4 @@ mod Lines
 mod Pieces
 mod OneTurn
 mod Complete
+mod FitLines

@@ -4,7 +4,7 @@ use Rattle.std.specs.Fmt.{decimal}
 use Rattle.alt_base.specs.declared.refusal.At.{At}
 use Rattle.route_events.specs.declared.action.Action.{Action}
 use Rattle.route_events.specs.declared.refusal.StepRefusal.{StepRefusal}
-use Rattle.route_events.specs.declared.refusal.StepRefusal.TheVariants.{Spent, TimeBack, NumberNotAbove, NoSuchAttempt, NoSuchConn, NoSuchRequest}
+use Rattle.route_events.specs.declared.refusal.StepRefusal.TheVariants.{Spent, TimeBack, NumberNotAbove, NoSuchAttempt, NoSuchConn, NotFramed, NoSuchRequest}
 use Rattle.event_lines.specs.declared.refusal.LineRefusal.{LineRefusal}
 use Rattle.event_lines.specs.declared.refusal.LineRefusal.TheVariants.{BadMoment, UnknownKind, BadField, ExtraField}
 use Rattle.event_lines.specs.ActionTexts.{action_text}
@@ -25,6 +25,7 @@ step_refusal_text (NumberNotAbove last) = codes " step 2 last " ++ decimal last
 step_refusal_text NoSuchAttempt = codes " step 3"
 step_refusal_text NoSuchConn = codes " step 4"
 step_refusal_text NoSuchRequest = codes " step 5"
+step_refusal_text NotFramed = codes " step 6"
 step_refusal_text (Spent facts) = codes " step 7"
 
 -- the refusals of a line, by their numbers, with the place

@@ -1,5 +1,6 @@
 ghost use Rattle.std.specs.Prelude.{◌≡◌, ◌≤◌, ℕ, List, length, IfOk};
 ghost use Rattle.route_events.specs.Journal.{Journal};
+ghost use Rattle.router_core.specs.Fitting.{IsFit};
 ghost use Rattle.router_core.specs.StandsFor.{StandsFor};
 ghost use Rattle.event_lines.specs.LineReading.{line_reading};
 ghost use Rattle.altroute_program.specs.Outcome.{after_reading, after_event};
@@ -27,6 +28,7 @@ fn answer_fact(
     now: Moment,
     fact: Fact,
 ) -> Result<Answer, NoMemory>
+    requires { IsFit fact }
     ensures { IfOk result (λ a. (text : List ℕ) (j : Journal) → StandsFor router j →
         AnswersSo a text number (after_event text j number now.0 (Event.Client fact))) }
 {

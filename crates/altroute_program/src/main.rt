@@ -53,6 +53,8 @@ mod alternative_tests;
 #[cfg(test)]
 mod frame_tests;
 #[cfg(test)]
+mod input_tests;
+#[cfg(test)]
 mod lent_table_tests;
 #[cfg(test)]
 mod misdirection_tests;

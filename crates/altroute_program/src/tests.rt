@@ -98,7 +98,7 @@ fn field_values(rt: HostRuntime) -> Result<(), Fail> {
 }
 
 // Requests, and what is refused.
-const HISTORIES: [Row; 8] = [
+const HISTORIES: [Row; 11] = [
     (b"", b"", 0),
     (
         b"0 request 1 https://a.example\n",
@@ -124,6 +124,13 @@ const HISTORIES: [Row; 8] = [
     (b"5 tick\n4 tick\n", b"refused 2 step 1 last 5\n", 1),
     (b"0 failed 9\n", b"refused 1 step 3\n", 1),
     (b"0 closed 9", b"refused 1 step 4\n", 1),
+    (b"0 input 9 00", b"refused 1 step 4\n", 1),
+    (b"0 input 1 0", b"refused 1 line 3 at 10\n", 1),
+    (
+        b"0 who https://a.example\n",
+        b"who https://a.example none\n",
+        0,
+    ),
 ];
 
 #[test]

@@ -56,6 +56,7 @@ pub(crate) fn write_step_refusal(alloc: Global, refusal: StepRefusal) -> Result<
         StepRefusal::NoSuchAttempt => put(&mut text, b" step 3")?,
         StepRefusal::NoSuchConn => put(&mut text, b" step 4")?,
         StepRefusal::NoSuchRequest => put(&mut text, b" step 5")?,
+        StepRefusal::NotFramed => put(&mut text, b" step 6")?,
         StepRefusal::Spent { facts: _ } => put(&mut text, b" step 7")?,
     }
     Ok(text)
