@@ -7,3 +7,6 @@ pub mod Commas
 pub mod NamesLemmas
 pub mod Reading
 pub mod NamesTexts
+pub mod Peers
+pub mod Listed
+pub mod Noted

@@ -1,6 +1,6 @@
 use crate::*;
 use alt_base::{Duplicate, NoMemory, Refused, Text};
-use origin_values::Host;
+use origin_values::{Addr, Host};
 use std::alloc::Global;
 use std::test::Fail;
 
@@ -96,5 +96,51 @@ fn hosts_that_names_cover(rt: HostRuntime) -> Result<(), Fail> {
         assert_eq!(rt; covered(rt.alloc(), names, host)?, Some(want));
     }
     assert_eq!(rt; covered(rt.alloc(), "*.example", ".example")?, None);
+    Ok(())
+}
+
+const HOME: Addr = Addr::V4([192, 0, 2, 1]);
+
+const AWAY: Addr = Addr::V6([32, 1, 13, 184, 0, 0, 0, 0, 0, 0, 0, 0, 0, 0, 0, 1]);
+
+// What is left of six insertions, once a connection is removed.
+fn without(alloc: Global, conn: u64) -> Result<AddressIndex, NoMemory> {
+    let mut index = AddressIndex::new(alloc);
+    for (addr, port, conn) in [
+        (HOME, 443, 1),
+        (HOME, 443, 2),
+        (AWAY, 443, 2),
+        (HOME, 443, 1),
+        (HOME, 8443, 3),
+        (AWAY, 443, 1),
+    ] {
+        index.insert(addr, port, conn)?;
+    }
+    index.remove(conn);
+    Ok(index)
+}
+
+#[test]
+fn connections_by_address(rt: HostRuntime) -> Result<(), Fail> {
+    let table = [
+        (1, HOME, 443, "2"),
+        (1, HOME, 8443, "3"),
+        (1, AWAY, 443, "2"),
+        (2, HOME, 443, "11"),
+        (2, AWAY, 443, "1"),
+        (3, HOME, 443, "121"),
+        (3, HOME, 8443, ""),
+        (4, HOME, 8443, "3"),
+        (4, AWAY, 443, "21"),
+        (4, AWAY, 8443, ""),
+    ];
+    for (gone, addr, port, want) in table {
+        let index = without(rt.alloc(), gone)?;
+        let mut digits = Vec::new(rt.alloc());
+        for conn in index.at(&addr, port) {
+            digits.push(b'0' + (*conn % 10) as u8)?;
+        }
+        assert_eq!(rt; digits.as_slice(), want.as_bytes());
+    }
     Ok(())
 }
