@@ -1,22 +1,15 @@
 -- Names that differ.
-use Rattle.std.proofs.Common.{◌≡◌, ◌≢◌, suc, ◌<◌, Bool, true, false, ◌||◌, nat_eq, List, [], ◌∷◌, ◌++◌, length, get_or, refl, sym, ◌∙◌, ap, arith, Decides}
+use Rattle.std.proofs.Common.{◌≡◌, ◌≢◌, suc, ◌<◌, Bool, true, false, ◌||◌, List, [], ◌∷◌, ◌++◌, length, get_or, refl, sym, ◌∙◌, ap, arith}
 use Rattle.std.specs.List.{AllPairs}
-use Rattle.std.specs.Cmp.Lexicographic.{pointwise}
-use Rattle.std.proofs.lemmas.Bool.Decides.{Decides-eqb}
-use Rattle.std.proofs.lemmas.Slice.Eq.{slice_eq-Decides}
 use Rattle.std.proofs.lemmas.List.Folds.{list_any_at}
 use Rattle.std.proofs.lemmas.List.Quantifiers.{all_pairs_push}
+use Rattle.dns_names.specs.Names.{name_eq}
+use Rattle.dns_names.proofs.SameNames.{name_decides}
 use Rattle.alias_chain.specs.Walk.{NameOf}
 use Rattle.alias_chain.specs.Following.{is_among}
 
-abbrev pub name_eq : NameOf → NameOf → Bool
-name_eq = pointwise (pointwise nat_eq)
-
 abbrev pub AllDiffer : List NameOf → Type 0
 AllDiffer names = AllPairs (λ (a b : NameOf). a ≢ b) names
-
-pub name_decides : (a b : NameOf) → Decides (name_eq a b) (a ≡ b)
-name_decides a b = slice_eq-Decides (λ x y. slice_eq-Decides Decides-eqb x y (pointwise nat_eq x y) refl) a b (name_eq a b) refl
 
 -- a name that isn't among others differs from each
 pub differ_push : (names : List NameOf) (name : NameOf) → AllDiffer names → is_among name names ≡ false → AllDiffer (names ++ name ∷ [])

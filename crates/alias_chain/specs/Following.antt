@@ -1,8 +1,8 @@
 -- The same endpoints as a function of the map: aliases followed one by one, and records put in order.
-use Rattle.std.specs.Prelude.{ℕ, zero, suc, Bool, true, false, ◌||◌, nat_eq, nat_le, List, [], ◌∷◌, ◌++◌, map, filter, Option, None, Some, if◌then◌else◌}
+use Rattle.std.specs.Prelude.{ℕ, zero, suc, Bool, true, false, ◌||◌, nat_le, List, [], ◌∷◌, ◌++◌, map, filter, Option, None, Some, if◌then◌else◌}
 use Rattle.std.specs.Result.{result_ok}
 use Rattle.std.specs.List.{list_any}
-use Rattle.std.specs.Cmp.Lexicographic.{pointwise}
+use Rattle.dns_names.specs.Names.{name_eq}
 use Rattle.dns_names.specs.TextReading.{read_text}
 use Rattle.origin_values.specs.declared.scheme.Scheme.{Scheme}
 use Rattle.origin_values.specs.declared.scheme.Scheme.TheVariants.{Http, Https}
@@ -28,7 +28,7 @@ is_root [] = true
 is_root (label ∷ labels) = false
 
 abbrev pub is_among : NameOf → List NameOf → Bool
-is_among name names = list_any (pointwise (pointwise nat_eq) name) names
+is_among name names = list_any (name_eq name) names
 
 -- the names of the aliases followed, and the name at which they end
 abbrev pub Ended : Type 0

@@ -1,5 +1,4 @@
 ghost use Rattle.std.specs.Prelude.{◌≡◌, ◌≤◌, ◌++◌, IfOk};
-ghost use Rattle.origin_values.specs.Valid.{IsOrigin};
 ghost use Rattle.alias_chain.specs.Held.{body_at};
 ghost use Rattle.alias_chain.specs.Endpoints.{AreEndpoints, own_endpoint, records_of};
 ghost use Rattle.alias_chain.specs.Following.{endpoints_by, of_records, itself, from_query, at_end};
@@ -28,8 +27,7 @@ pub fn endpoints<A: Answers>(
     supported: &Protos,
     now: Moment,
 ) -> Result<Endpoints, NoMemory>
-    requires newest { A.newest answers.now ≤ now.0 }
-    requires origin { IsOrigin origin.now }
+    requires { A.newest answers.now ≤ now.0 }
     ensures by_walk { IfOk result (AreEndpoints (λ name. body_at now.0 (A.held answers.now name)) supported.now origin.now) }
     ensures followed { IfOk result (λ all. all ≡ endpoints_by (λ name. body_at now.0 (A.held answers.now name)) supported.now origin.now) }
 {

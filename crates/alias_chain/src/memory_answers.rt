@@ -1,6 +1,5 @@
-ghost use Rattle.std.specs.Prelude.{nat_eq};
-ghost use Rattle.std.specs.Cmp.Lexicographic.{pointwise};
 ghost use Rattle.std.specs.HashMap.{get};
+ghost use Rattle.dns_names.specs.Names.{name_eq};
 
 use crate::{Answers, Held, SvcbSet, is_in_force};
 use alt_base::{ListOf, Moment, NoMemory};
@@ -40,7 +39,7 @@ impl MemoryAnswers {
 impl Answers for MemoryAnswers {
     ghost newest = { λ answers. 0 };
 
-    ghost held = { λ answers name. get (pointwise (pointwise nat_eq)) answers.held name };
+    ghost held = { λ answers name. get name_eq answers.held name };
 
     fn https(&self, name: &Name, now: Moment) -> Option<&SvcbSet> {
         match self.held.get(name) {

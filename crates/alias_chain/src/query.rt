@@ -1,18 +1,16 @@
-ghost use Rattle.std.specs.Prelude.{◌≡◌, ◌≤◌, ◌<◌, ◌^◌, length, IfOk};
+ghost use Rattle.std.specs.Prelude.{◌≡◌, IfOk};
 ghost use Rattle.std.specs.Result.{result_ok};
 ghost use Rattle.dns_names.specs.TextReading.{read_text};
-ghost use Rattle.origin_values.specs.Valid.{IsOrigin};
 ghost use Rattle.alias_chain.specs.QueryName.{query_text};
 ghost use Rattle.alias_chain.specs.Following.{query_for};
 
-use alt_base::{NoMemory, Refused};
+use alt_base::NoMemory;
 use dns_names::Name;
 use origin_values::{Host, Origin, Scheme};
 use std::alloc::Global;
 
 /// The name whose HTTPS records are asked for, where there is one (RFC 9460 2.3 and 9.1).
 pub(crate) fn query_name(alloc: Global, origin: &Origin) -> Result<Option<Name>, NoMemory>
-    requires { IsOrigin origin.now }
     ensures { IfOk result (λ name. name ≡ query_for origin.now.scheme origin.now.host origin.now.port) }
 {
     match origin.scheme {
@@ -27,21 +25,14 @@ pub(crate) fn query_name(alloc: Global, origin: &Origin) -> Result<Option<Name>,
 
 // The name of a host's text and a port, where it isn't too long.
 fn name_of(alloc: Global, host: &[u8], port: u16) -> Result<Option<Name>, NoMemory>
-    requires { length host.now ≤ 253 }
     ensures { IfOk result (λ name. name ≡ result_ok (read_text (query_text port host.now))) }
 {
     let text = text_of(alloc, host, port)?;
-    match Name::from_text(alloc, text.as_slice()) {
-        Ok(name) => Ok(Some(name)),
-        Err(Refused::NoMemory) => Err(NoMemory),
-        Err(Refused::At { .. }) => Ok(None),
-    }
+    Name::spelled_by(alloc, text.as_slice())
 }
 
 fn text_of(alloc: Global, host: &[u8], port: u16) -> Result<Vec<u8>, NoMemory>
-    requires { length host.now ≤ 253 }
-    ensures text { IfOk result (λ text. text.items ≡ query_text port host.now) }
-    ensures small { IfOk result (λ text. length text.items < 2 ^ 32) }
+    ensures { IfOk result (λ text. text.items ≡ query_text port host.now) }
 {
     let mut text = Vec::new(alloc);
     if port != 443 {

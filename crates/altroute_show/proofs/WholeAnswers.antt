@@ -22,6 +22,7 @@ use Rattle.svcb_wire.specs.RecordGrammar.{SpellsRecord, RecordRefusedAt}
 use Rattle.svcb_wire.specs.RecordReading.{read_record}
 use Rattle.svcb_wire.specs.Records.{IsRecord, record_octets}
 use Rattle.svcb_wire.proofs.RecordSays.{read_says, refusal_says}
+use Rattle.svcb_wire.specs.RefusalNumbers.{refusal_number as wire_refusal_number}
 use Rattle.svcb_wire.proofs.RecordSpelled.{spelled_reads, refused_reads, record_spelled as octets_spell}
 use Rattle.svcb_text.specs.declared.refusal.RecordTextRefusal.{RecordTextRefusal}
 use Rattle.svcb_text.specs.RefusalNumbers.{text_refusal_number}
@@ -35,7 +36,7 @@ use Rattle.altroute_show.specs.declared.given.Given.TheVariants.{Shown, Refused}
 use Rattle.altroute_show.specs.declared.record_form.RecordForm.{RecordForm}
 use Rattle.altroute_show.specs.declared.record_form.RecordForm.TheVariants.{Text, Json}
 use Rattle.altroute_show.specs.declared.whole_command.WholeCommand.TheVariants.{ShowAltSvc, WriteHttps}
-use Rattle.altroute_show.specs.Given.{altsvc_reading_given, record_given, octets_given, text_reading_given, form_line, octets_line, refused_at, wire_refusal_number, given_for}
+use Rattle.altroute_show.specs.Given.{altsvc_reading_given, record_given, octets_given, text_reading_given, form_line, octets_line, refused_at, given_for}
 use Rattle.altroute_show.specs.InputTexts.{IsInput}
 use Rattle.altroute_show.specs.Answers.{IsGivenBy, showing}
 use Rattle.altroute_show.proofs.InputTexts.{text_of, octets_are}

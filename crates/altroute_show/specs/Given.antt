@@ -11,9 +11,9 @@ use Rattle.hex.specs.Hex.{decode_of, encode_lower}
 use Rattle.hex.specs.declared.error.FromHexError.{FromHexError}
 use Rattle.svcb_wire.specs.declared.svcb.Svcb.{Svcb}
 use Rattle.svcb_wire.specs.declared.refusal.WireRefusal.{WireRefusal}
-use Rattle.svcb_wire.specs.declared.refusal.WireRefusal.TheVariants as wire
 use Rattle.svcb_wire.specs.RecordReading.{read_record}
 use Rattle.svcb_wire.specs.Records.{record_octets}
+use Rattle.svcb_wire.specs.RefusalNumbers.{refusal_number as wire_refusal_number}
 use Rattle.svcb_text.specs.declared.refusal.RecordTextRefusal.{RecordTextRefusal}
 use Rattle.svcb_text.specs.RefusalNumbers.{text_refusal_number}
 use Rattle.svcb_text.specs.TextReading.{read_record_text}
@@ -47,16 +47,7 @@ altsvc_reading_given (Err at) = Refused (refused_at (refusal_number at.reason) a
 abbrev pub altsvc_given : List ℕ → Given
 altsvc_given input = altsvc_reading_given (read_value (without_newline input))
 
--- `show https` and `show https --json`: the record of octets in hex
-abbrev pub wire_refusal_number : WireRefusal → ℕ
-wire_refusal_number wire.Short = 1
-wire_refusal_number wire.BadTarget = 2
-wire_refusal_number wire.KeyOrder = 3
-wire_refusal_number wire.ParamPast = 4
-wire_refusal_number (wire.BadValue key) = 5
-wire_refusal_number wire.TooLong = 6
-
--- a record's text as one line, and its JSON
+-- `show https` and `show https --json`: the record of octets in hex, as one line of text or as JSON
 abbrev pub form_line : RecordForm → Svcb → List ℕ
 form_line Text value = record_text value ++ codes "\n"
 form_line Json value = record_line value

@@ -1,5 +1,5 @@
 ghost use Rattle.std.specs.Prelude.{◌≡◌, IfOk};
-ghost use Rattle.altroute_show.specs.Given.{hex_given, wire_refusal_number, record_given};
+ghost use Rattle.altroute_show.specs.Given.{hex_given, record_given};
 ghost use Rattle.svcb_wire.specs.RecordReading.{read_record};
 
 use crate::give::{refused_given, trimmed};
@@ -8,20 +8,7 @@ use crate::record_form::{RecordForm, write_line};
 use alt_base::{ListOf, NoMemory, Refused};
 use hex::FromHexError;
 use std::alloc::Global;
-use svcb_wire::{WireRefusal, parse};
-
-fn refusal_number(refusal: WireRefusal) -> u32
-    ensures { result ≡ wire_refusal_number refusal }
-{
-    match refusal {
-        WireRefusal::Short => 1,
-        WireRefusal::BadTarget => 2,
-        WireRefusal::KeyOrder => 3,
-        WireRefusal::ParamPast => 4,
-        WireRefusal::BadValue { .. } => 5,
-        WireRefusal::TooLong => 6,
-    }
-}
+use svcb_wire::parse;
 
 // What is written for the octets of a record.
 fn record_given(alloc: Global, form: RecordForm, octets: &[u8]) -> Result<Given, NoMemory>
@@ -30,7 +17,9 @@ fn record_given(alloc: Global, form: RecordForm, octets: &[u8]) -> Result<Given,
     match parse(alloc, octets) {
         Ok(value) => Ok(Given::Shown(write_line(alloc, &value, form)?)),
         Err(Refused::NoMemory) => Err(NoMemory),
-        Err(Refused::At { place, reason }) => refused_given(alloc, refusal_number(reason), place),
+        Err(Refused::At { place, reason }) => {
+            refused_given(alloc, u32::from(reason.number()), place)
+        }
     }
 }
 

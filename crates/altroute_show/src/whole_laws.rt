@@ -11,6 +11,7 @@ ghost use Rattle.hex_text.specs.HexGrammar.{SpellsHex};
 ghost use Rattle.svcb_wire.specs.declared.svcb.Svcb.{Svcb};
 ghost use Rattle.svcb_wire.specs.declared.refusal.WireRefusal.{WireRefusal};
 ghost use Rattle.svcb_wire.specs.RecordGrammar.{SpellsRecord, RecordRefusedAt};
+ghost use Rattle.svcb_wire.specs.RefusalNumbers.{refusal_number as wire_refusal_number};
 ghost use Rattle.svcb_text.specs.declared.refusal.RecordTextRefusal.{RecordTextRefusal};
 ghost use Rattle.svcb_text.specs.RefusalNumbers.{text_refusal_number};
 ghost use Rattle.svcb_text.specs.TextGrammar.{SpellsRecordText};
@@ -18,7 +19,7 @@ ghost use Rattle.svcb_text.specs.TextRefusals.{RecordTextRefusedAt};
 ghost use Rattle.altroute_show.specs.declared.given.Given.TheVariants.{Shown, Refused};
 ghost use Rattle.altroute_show.specs.declared.record_form.RecordForm.{RecordForm};
 ghost use Rattle.altroute_show.specs.declared.whole_command.WholeCommand.TheVariants.{ShowAltSvc, WriteHttps};
-ghost use Rattle.altroute_show.specs.Given.{form_line, octets_line, refused_at, wire_refusal_number, given_for};
+ghost use Rattle.altroute_show.specs.Given.{form_line, octets_line, refused_at, given_for};
 ghost use Rattle.altroute_show.specs.InputTexts.{IsInput};
 ghost use Rattle.altroute_show.specs.Answers.{IsGivenBy, showing};
 

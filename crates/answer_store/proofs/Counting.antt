@@ -9,7 +9,7 @@ use Rattle.indexmap.specs.IndexMap.{IsUnique}
 use Rattle.alias_chain.specs.Held.{in_force}
 use Rattle.answer_store.specs.declared.store.AnswerStore.{AnswerStore}
 use Rattle.answer_store.specs.declared.table.Table.{Table}
-use Rattle.answer_store.specs.Names.{name_eq}
+use Rattle.dns_names.specs.Names.{name_eq}
 use Rattle.answer_store.specs.Tables.{at, entries_of}
 use Rattle.answer_store.specs.Bodies.{Kind, A, Aaaa, Https, Addresses4, Addresses6, Records}
 use Rattle.answer_store.specs.Contents.{kept, IsCount, Counts}

@@ -3,7 +3,8 @@ use Rattle.std.proofs.Common.{◌≡◌, ℕ, List, Some, refl}
 use Rattle.std.specs.Cmp.{IsEquivalence}
 use Rattle.std.specs.Cmp.Lexicographic.{lists_equiv, nat_list_eq_equiv, lists_agrees, lists_ties, slice_cmp, texts_ties}
 use Rattle.std.specs.Ordering.{nat_cmp, is_eq}
-use Rattle.answer_store.specs.Names.{name_eq, name_cmp, name_partial_cmp}
+use Rattle.dns_names.specs.Names.{name_eq}
+use Rattle.answer_store.specs.Names.{name_cmp, name_partial_cmp}
 
 pub same_names : IsEquivalence name_eq
 same_names = lists_equiv nat_list_eq_equiv

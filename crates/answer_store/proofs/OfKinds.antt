@@ -8,7 +8,7 @@ use Rattle.alias_chain.specs.declared.held.Held.{Held}
 use Rattle.alias_chain.specs.Held.{held_at, is_in_force, in_force, body_at}
 use Rattle.answer_store.specs.declared.store.AnswerStore.{AnswerStore}
 use Rattle.answer_store.specs.declared.table.Table.{Table}
-use Rattle.answer_store.specs.Names.{name_eq}
+use Rattle.dns_names.specs.Names.{name_eq}
 use Rattle.answer_store.specs.Tables.{at}
 use Rattle.answer_store.specs.Bodies.{Kind, A, Aaaa, Https, Body, Addresses4, Addresses6, Records, kind_eq, of_kind}
 use Rattle.answer_store.specs.Contents.{kept, kept_in, https_held, IsCount, HoldsInForce}
@@ -134,7 +134,7 @@ module _ {B : Type 0} where
 pub answers_stay : (old new : AnswerStore) (now t : ℕ) → now ≤ t → HoldsInForce old new now → (name : List (List ℕ)) (kind : Kind) → body_at t (kept new name kind) ≡ body_at t (kept old name kind)
 answers_stay old new now t le holds name kind = ap (body_at t) (holds name kind) ∙ body_later now t (kept old name kind) le
 
-records_back : (a b : List Svcb) → Records a ≡ Records b → a ≡ b
+pub records_back : (a b : List Svcb) → Records a ≡ Records b → a ≡ b
 records_back a b e = cc
 
 pub records_stay : (old new : AnswerStore) (now t : ℕ) → now ≤ t → HoldsInForce old new now → (name : List (List ℕ)) → body_at t (https_held new name) ≡ body_at t (https_held old name)

@@ -1,27 +1,26 @@
 -- Places in the queue, and what is in force.
 use Rattle.std.proofs.Common.{◌≡◌, ℕ, ◌+◌, ◌-◌, ◌<◌, ◌≤◌, Bool, true, false, cond, not, ◌&&◌, nat_lt, nat_eq, Option, None, Some, List, [], ◌∷◌, refl, sym, ap, ◌∙◌, arith}
 use Rattle.std.specs.Prelude.{◌==◌}
-use Rattle.std.specs.Cmp.{IsEquivalence}
+use Rattle.std.specs.Cmp.{IsEquivalence, both_tied, unsigned_ties}
 use Rattle.std.specs.Option.{IfSome}
 use Rattle.std.specs.BTreeSet.{BTreeSet, contains, Updates}
 use Rattle.std.specs.Map.{lookup, lookup_key}
 use Rattle.std.specs.declared.cmp.Ordering.{Ordering}
+use Rattle.std.specs.declared.cmp.Ordering.TheVariants.{Less, Equal, Greater}
 use Rattle.std.specs.Ordering.{nat_cmp, ordering_then, is_eq, is_gt}
 use Rattle.std.proofs.lemmas.Bool.Decides.{nat_tests}
 use Rattle.std.proofs.lemmas.Grind.{common_steps}
+use Rattle.std.proofs.lemmas.Map.Keys.{le_from_not_gt}
+use Rattle.alt_base.proofs.Numbers.{eq_self}
 use Rattle.alias_chain.specs.Held.{in_force}
 use Rattle.answer_store.specs.Ends.{ends_at, end_of, is_taken_by}
 use Rattle.answer_store.specs.Queue.{place_cmp, is_place}
 use Rattle.alias_chain.specs.declared.held.Held.{Held}
 
-then_eq : (a c : ℕ) (r : Ordering) → is_eq (ordering_then (nat_cmp a c) r) ≡ ((a == c) && is_eq r)
-then_eq a c r = grind (arith, nat_tests, common_steps)
-
-then_gt : (a c : ℕ) (r : Ordering) → is_gt (ordering_then (nat_cmp a c) r) ≡ false → a ≤ c
-then_gt a c r h = grind (arith, nat_tests, common_steps)
-
-pub own_end : (n : ℕ) → nat_eq n n ≡ true
-own_end n = grind (arith, nat_tests)
+first_not_gt : (o r : Ordering) → is_gt (ordering_then o r) ≡ false → is_gt o ≡ false
+first_not_gt Less r h = refl
+first_not_gt Equal r h = refl
+first_not_gt Greater r h = h
 
 -- a place that a key leaves for another
 pub left : (ended end e : ℕ) (same old : Bool) → (ended ≡ end → ⊥) → cond ((ended == e) && same) false old ≡ cond (same && (nat_eq ended e && not (end == e))) false old
@@ -43,10 +42,10 @@ other_end m n e h k = grind (arith, nat_tests)
 
 module _ {K : Type 0} (cmp : K → K → Ordering) where
   pub not_after : (p q : ℕ × K) → is_gt (place_cmp cmp p q) ≡ false → p.0 ≤ q.0
-  not_after p q = then_gt p.0 q.0 (cmp p.1 q.1)
+  not_after p q h = le_from_not_gt p.0 q.0 (first_not_gt (nat_cmp p.0 q.0) (cmp p.1 q.1) h)
 
   pub place_at : (eq : K → K → Bool) → ((x y : K) → eq x y ≡ is_eq (cmp x y)) → (p q : ℕ × K) → is_eq (place_cmp cmp p q) ≡ is_place eq p q
-  place_at eq matches p q = then_eq p.0 q.0 (cmp p.1 q.1) ∙ ap (λ w. (p.0 == q.0) && w) (sym (matches p.1 q.1))
+  place_at eq matches p q = sym (both_tied (p.0 == q.0) (eq p.1 q.1) (nat_cmp p.0 q.0) (cmp p.1 q.1) (unsigned_ties p.0 q.0) (matches p.1 q.1))
 
   -- the queue without a place
   pub without : (eq : K → K → Bool) → ((x y : K) → eq x y ≡ is_eq (cmp x y)) → (old new : BTreeSet (ℕ × K)) (p : ℕ × K) → Updates (place_cmp cmp) old new p false
@@ -103,7 +102,7 @@ module _ {V : Type 0} where
   pub all_in_force : (o : Option (Held V)) (newest now : ℕ) → newest ≤ now → is_taken_by newest o ≡ true → ((e : ℕ) → ends_at e o ≡ true → now < e) → in_force now o ≡ o
   all_in_force None newest now le taken later = refl
   all_in_force (Some h) newest now le taken later =
-      let before = later (end_of h) (own_end (end_of h)) in
+      let before = later (end_of h) (eq_self (end_of h)) in
       let by_now : not (nat_lt now h.moment) ≡ true = grind (arith, nat_tests) in
       rw (in_time now h.moment h.ttl before by_now) refl
 

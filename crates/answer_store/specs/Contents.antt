@@ -7,7 +7,7 @@ use Rattle.alias_chain.specs.declared.held.Held.{Held}
 use Rattle.alias_chain.specs.Held.{in_force}
 use Rattle.answer_store.specs.declared.store.AnswerStore.{AnswerStore}
 use Rattle.answer_store.specs.declared.table.Table.{Table}
-use Rattle.answer_store.specs.Names.{name_eq}
+use Rattle.dns_names.specs.Names.{name_eq}
 use Rattle.answer_store.specs.Tables.{at}
 use Rattle.answer_store.specs.Bodies.{Kind, A, Aaaa, Https, Body, Addresses4, Addresses6, Records, of_kind}
 
@@ -20,7 +20,13 @@ kept_in v4 v6 https name Https = of_kind Records (at https name)
 abbrev pub kept : AnswerStore → List (List ℕ) → Kind → Option (Held Body)
 kept store name kind = kept_in store.v4 store.v6 store.https name kind
 
--- its HTTPS records
+-- the same kind by kind: its addresses of IPv4, those of IPv6, and its HTTPS records
+abbrev pub v4_held : AnswerStore → List (List ℕ) → Option (Held (List (List ℕ)))
+v4_held store name = at store.v4 name
+
+abbrev pub v6_held : AnswerStore → List (List ℕ) → Option (Held (List (List ℕ)))
+v6_held store name = at store.v6 name
+
 abbrev pub https_held : AnswerStore → List (List ℕ) → Option (Held (List Svcb))
 https_held store name = at store.https name
 

@@ -3,7 +3,7 @@ use Rattle.std.specs.Prelude.{◌≡◌, ℕ, Option, List}
 use Rattle.indexmap.specs.IndexMap.{get}
 use Rattle.alias_chain.specs.declared.held.Held.{Held}
 use Rattle.answer_store.specs.declared.table.Table.{Table}
-use Rattle.answer_store.specs.Names.{name_eq}
+use Rattle.dns_names.specs.Names.{name_eq}
 
 module _ {B : Type 0} where
   -- the greatest moment that it was given

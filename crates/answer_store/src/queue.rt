@@ -1,7 +1,8 @@
 ghost use Rattle.std.specs.Prelude.{◌≡◌, ◌≤◌, ◌<◌, ◌+◌, ℕ, List, true, false, ◌==◌, ◌&&◌, not, IfSome, IfNone, if◌then◌else◌};
 ghost use Rattle.std.specs.BTreeSet.{contains, btree_set_len, IsUnchanged};
 ghost use Rattle.answer_store.specs.Ends.{end_of, ends_at};
-ghost use Rattle.answer_store.specs.Names.{name_eq, name_cmp};
+ghost use Rattle.dns_names.specs.Names.{name_eq};
+ghost use Rattle.answer_store.specs.Names.{name_cmp};
 ghost use Rattle.answer_store.specs.Queue.{place_cmp, is_place};
 
 use crate::sorted_name::SortedName;

@@ -2,7 +2,8 @@ ghost use Rattle.std.specs.Prelude.{◌≡◌, refl};
 ghost use Rattle.std.specs.Cmp.{partial_equiv_from_equiv, unsigned_po};
 ghost use Rattle.std.specs.Cmp.Lexicographic.{slice_partial_cmp, lists_equiv, nat_list_eq_equiv, lists_po, lists_total, lists_agrees, lists_ties, nat_list_cmp_total, texts_ties, slice_cmp};
 ghost use Rattle.std.specs.Ordering.{nat_cmp};
-ghost use Rattle.answer_store.specs.Names.{name_eq, name_cmp, name_partial_cmp};
+ghost use Rattle.dns_names.specs.Names.{name_eq};
+ghost use Rattle.answer_store.specs.Names.{name_cmp, name_partial_cmp};
 
 use alt_base::Bytes;
 use dns_names::Name;

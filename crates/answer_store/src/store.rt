@@ -28,7 +28,7 @@ pub struct AnswerStore {
 impl AnswerStore {
     ghost use Rattle.std.specs.Prelude.{◌&&◌, ℕ, List, Some, None, OnOk, OnErr, if◌then◌else◌};
     ghost use Rattle.alias_chain.specs.Held.{in_force, held_at, body_at};
-    ghost use Rattle.answer_store.specs.Names.{name_eq};
+    ghost use Rattle.dns_names.specs.Names.{name_eq};
     ghost use Rattle.answer_store.specs.Bodies.{Kind, A, Aaaa, Https, kind_eq, Addresses4, Addresses6, Records, kind_of, lists_address};
     ghost use Rattle.answer_store.specs.Contents.{kept, newest_moment, IsAsBefore, Counts};
 

@@ -2,7 +2,8 @@ ghost use Rattle.std.specs.Prelude.{◌≡◌, ◌≤◌, ℕ, List, true};
 ghost use Rattle.indexmap.specs.IndexMap.{get};
 ghost use Rattle.std.specs.BTreeSet.{contains};
 ghost use Rattle.answer_store.specs.Ends.{ends_at, is_taken_by};
-ghost use Rattle.answer_store.specs.Names.{name_eq, name_cmp};
+ghost use Rattle.dns_names.specs.Names.{name_eq};
+ghost use Rattle.answer_store.specs.Names.{name_cmp};
 ghost use Rattle.answer_store.specs.Queue.{place_cmp};
 
 use crate::queue::{Queue, end_of, leave, pop_ended};

@@ -1,3 +1,4 @@
+pub mod SameNames
 pub mod Bytes
 pub mod WireSteps
 pub mod WireSays

@@ -1,6 +1,11 @@
 -- Names as lists of labels, each a list of bytes (RFC 1035 3.1), and their wire form.
-use Rattle.std.specs.Prelude.{◌≡◌, ◌≤◌, ◌<◌, ℕ, List, [], ◌∷◌, ◌++◌, length}
+use Rattle.std.specs.Prelude.{◌≡◌, ◌≤◌, ◌<◌, ℕ, Bool, nat_eq, List, [], ◌∷◌, ◌++◌, length}
 use Rattle.std.specs.Char.{to_ascii_lowercase}
+use Rattle.std.specs.Cmp.Lexicographic.{pointwise}
+
+-- two names are one: their labels are
+abbrev pub name_eq : List (List ℕ) → List (List ℕ) → Bool
+name_eq = pointwise (pointwise nat_eq)
 
 abbrev pub AreBytes : List ℕ → Type 0
 AreBytes [] = Unit {0}

@@ -1,10 +1,11 @@
-ghost use Rattle.std.specs.Prelude.{◌≡◌, ◌≤◌, ◌<◌, ◌^◌, ◌+◌, length, drop, nat_eq, IfOk};
+ghost use Rattle.std.specs.Prelude.{◌≡◌, ◌≤◌, ◌<◌, ◌^◌, ◌+◌, length, drop, IfOk, IfSome};
+ghost use Rattle.std.specs.Result.{result_ok};
 ghost use Rattle.std.specs.Cmp.{partial_equiv_from_equiv};
-ghost use Rattle.std.specs.Cmp.Lexicographic.{pointwise, lists_equiv, nat_list_eq_equiv, bytes_decides};
+ghost use Rattle.std.specs.Cmp.Lexicographic.{lists_equiv, nat_list_eq_equiv, bytes_decides};
 ghost use Rattle.std.specs.Hash.{items_Alike, same_Alike};
 ghost use Rattle.std.specs.Hash as fed;
 ghost use Rattle.alt_base.specs.Answers.{Answers, IfRefused};
-ghost use Rattle.dns_names.specs.Names.{wire_form, IsName};
+ghost use Rattle.dns_names.specs.Names.{name_eq, wire_form, IsName};
 ghost use Rattle.dns_names.specs.TextGrammar.{SpellsText, TextRefusedAt};
 ghost use Rattle.dns_names.specs.TextParts.{text_form};
 ghost use Rattle.dns_names.specs.TextReading.{read_text};
@@ -16,6 +17,9 @@ use alt_base::{Bytes, Duplicate, ListOf, NoMemory, Refused, Text};
 use std::alloc::Global;
 use std::hash::{Hash, Hasher};
 use std::marker::Model;
+
+/// A text that spells a name has at most four bytes for each of 254 octets.
+const MOST_TEXT: usize = 1016;
 
 /// A name of the domain name system: labels of 1 to 63 bytes, without upper-case ASCII letters, at most 255 octets on
 /// the wire. To a contract it is the list of its labels, each a list of bytes; the root has none.
@@ -97,6 +101,22 @@ impl Name {
         Ok(Name { labels })
     }
 
+    /// The name that a whole text spells (RFC 1035 5.1), whatever its length; None exactly where it spells none.
+    #[tactic(auto, using(crate::proofs::Bounds::none_longer))]
+    pub fn spelled_by(alloc: Global, text: &[u8]) -> Result<Option<Name>, NoMemory>
+        ensures reading { IfOk result (λ name. name ≡ result_ok (read_text text.now)) }
+        ensures name { IfOk result (λ name. IfSome name IsName) }
+    {
+        if text.len() > MOST_TEXT {
+            return Ok(None);
+        }
+        match Name::from_text(alloc, text) {
+            Ok(name) => Ok(Some(name)),
+            Err(Refused::NoMemory) => Err(NoMemory),
+            Err(Refused::At { .. }) => Ok(None),
+        }
+    }
+
     /// The text with its final dot (RFC 1035 5.1): shown bytes stand raw, the special ones behind a backslash, all others
     /// as a backslash and three digits.
     pub fn to_text(&self, alloc: Global) -> Result<Text, NoMemory>
@@ -110,7 +130,7 @@ impl Name {
 }
 
 impl PartialEq for Name {
-    ghost eq = { pointwise (pointwise nat_eq) };
+    ghost eq = { name_eq };
 
     ghost laws = { partial_equiv_from_equiv (lists_equiv nat_list_eq_equiv) };
 

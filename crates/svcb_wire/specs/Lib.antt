@@ -5,3 +5,4 @@ pub mod ValueReading
 pub mod RecordReading
 pub mod RecordGrammar
 pub mod Usable
+pub mod RefusalNumbers

@@ -1,3 +1,6 @@
+ghost use Rattle.std.specs.Prelude.{◌≡◌};
+ghost use Rattle.svcb_wire.specs.RefusalNumbers.{refusal_number};
+
 /// Why octets are no record.
 #[derive(Clone, Copy, Debug, PartialEq, Eq)]
 pub enum WireRefusal {
@@ -13,4 +16,20 @@ pub enum WireRefusal {
     BadValue { key: u16 },
     /// More than 65,535 octets: at 65,535.
     TooLong,
+}
+
+impl WireRefusal {
+    /// Its number, from 1 in the order in which the refusals stand here. It takes no memory.
+    pub fn number(self) -> u8
+        ensures { result ≡ refusal_number self }
+    {
+        match self {
+            WireRefusal::Short => 1,
+            WireRefusal::BadTarget => 2,
+            WireRefusal::KeyOrder => 3,
+            WireRefusal::ParamPast => 4,
+            WireRefusal::BadValue { .. } => 5,
+            WireRefusal::TooLong => 6,
+        }
+    }
 }

@@ -1,5 +1,6 @@
 use Rattle.std.proofs.Common.{arith}
-use Rattle.answer_store.specs.Names.{name_eq, name_cmp}
+use Rattle.dns_names.specs.Names.{name_eq}
+use Rattle.answer_store.specs.Names.{name_cmp}
 use Rattle.answer_store.proofs.Names.{matches}
 use Rattle.answer_store.proofs.Places.{popped, not_after}
 use Rattle.answer_store.proofs.queue.pop_ended.Goals as goal

@@ -1,6 +1,7 @@
 use Rattle.std.proofs.Common.{ap, cond, false, ◌∙◌}
 use Rattle.std.specs.BTreeSet.{contains}
-use Rattle.answer_store.specs.Names.{name_eq, name_cmp}
+use Rattle.dns_names.specs.Names.{name_eq}
+use Rattle.answer_store.specs.Names.{name_cmp}
 use Rattle.answer_store.specs.Queue.{place_cmp, is_place}
 use Rattle.answer_store.proofs.Names.{matches}
 use Rattle.answer_store.proofs.Places.{without}

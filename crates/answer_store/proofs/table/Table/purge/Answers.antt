@@ -2,7 +2,7 @@ use Rattle.std.proofs.Common.{◌≡◌, ap, cond, false, true, None, sym, ◌�
 use Rattle.indexmap.specs.IndexMap.{get}
 use Rattle.alias_chain.specs.Held.{in_force}
 use Rattle.answer_store.specs.Ends.{ends_at, is_taken_by}
-use Rattle.answer_store.specs.Names.{name_eq}
+use Rattle.dns_names.specs.Names.{name_eq}
 use Rattle.answer_store.specs.Queue.{is_place}
 use Rattle.answer_store.specs.Tables.{at}
 use Rattle.answer_store.proofs.Names.{same_names}

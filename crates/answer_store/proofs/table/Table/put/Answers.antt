@@ -4,7 +4,8 @@ use Rattle.std.specs.Map.{lookup}
 use Rattle.indexmap.specs.IndexMap.{get}
 use Rattle.alias_chain.specs.Held.{held_at}
 use Rattle.answer_store.specs.Ends.{ends_at, is_taken_by}
-use Rattle.answer_store.specs.Names.{name_eq, name_cmp}
+use Rattle.dns_names.specs.Names.{name_eq}
+use Rattle.answer_store.specs.Names.{name_cmp}
 use Rattle.answer_store.specs.Queue.{place_cmp, is_place}
 use Rattle.answer_store.proofs.Names.{same_names, matches}
 use Rattle.answer_store.proofs.Places.{place_at, lookup_alike, replaced, requeued, taken_by_then}
