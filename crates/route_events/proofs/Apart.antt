@@ -27,7 +27,7 @@ fewer_pass {X} p q (x ∷ xs) none = by_test (p x) (fewer_pass p q xs (second_of
     by_test true rest = or_from (q x) (list_any q (filter p xs)) (first_of_neither (q x) (list_any q xs) none) rest
     by_test false rest = rest
 
-fewer_apart : {X : Type 0} (same : X → X → Bool) (p : X → Bool) (xs : List X) → are_apart same xs ≡ true → are_apart same (filter p xs) ≡ true
+pub fewer_apart : {X : Type 0} (same : X → X → Bool) (p : X → Bool) (xs : List X) → are_apart same xs ≡ true → are_apart same (filter p xs) ≡ true
 fewer_apart same p [] h = refl
 fewer_apart {X} same p (x ∷ xs) h = by_test (p x) (fewer_apart same p xs parts.1)
   where

@@ -37,7 +37,7 @@ closed_step : (j : Journal) (now : ℕ) (fact : Fact) (n : ℕ) → list_any (cl
 closed_step j now fact n h =
     closed_with (follow j now (parts_of j now fact)) (answer_to (follow j now (parts_of j now fact)) now fact) n (closed_follow j now (parts_of j now fact) n h)
 
-earlier : (b c : Bool) → (b ≡ true → c ≡ true) → c ≡ false → b ≡ false
+pub earlier : (b c : Bool) → (b ≡ true → c ≡ true) → c ≡ false → b ≡ false
 earlier true c h e = absurd (true≢false (sym (h refl) ∙ e))
 earlier false c h e = refl
 

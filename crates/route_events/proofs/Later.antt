@@ -1,19 +1,22 @@
 -- What of a history tells the live alternatives of an origin at a later moment, and the failures of a route: no more than
 -- two histories share that are alike.
-use Rattle.std.proofs.Common.{◌≡◌, ◌⊎◌, inl, inr, ℕ, ◌+◌, ◌-◌, ◌≤◌, Bool, true, false, cond, not, nat_lt, [], ◌∷◌, Option, Some, None, filter, refl, ap, sym, ◌∙◌, arith}
+use Rattle.std.proofs.Common.{◌≡◌, ◌⊎◌, inl, inr, ℕ, ◌+◌, ◌-◌, ◌≤◌, Bool, true, false, cond, not, nat_lt, [], ◌∷◌, Option, Some, None, filter, refl, ap, sym, ◌∙◌, subst, arith}
 use Rattle.origin_values.specs.Equality.{origin_eq}
 use Rattle.origin_values.specs.declared.origin.Origin.{Origin}
 use Rattle.altsvc_grammar.specs.declared.alt.Alt.{Alt}
-use Rattle.altsvc_grammar.specs.declared.alt_key.AltKey.{AltKey}
+use Rattle.alias_chain.specs.declared.held.Held.{Held}
+use Rattle.alias_chain.specs.Held.{is_in_force, in_force, body_at}
+use Rattle.alias_chain.specs.Walk.{NameOf}
+use Rattle.route_events.specs.declared.answer.AnswerBody.{AnswerBody}
 use Rattle.route_events.specs.declared.fact.Fact.{Fact}
 use Rattle.route_events.specs.declared.fact.Fact.TheVariants as fact
 use Rattle.route_events.specs.declared.action.Action.TheVariants as action
 use Rattle.route_events.specs.declared.route.Route.{Route}
-use Rattle.route_events.specs.declared.route.Route.TheVariants as route
 use Rattle.route_events.specs.Journal.{Happened, Cut, Taken, Journal, newest_moment}
 use Rattle.route_events.specs.Misdirection.{gives_up}
 use Rattle.route_events.specs.Alternatives.{alternatives_of, newest_age, is_fresh, live, took, left_by}
-use Rattle.route_events.specs.Backoff.{Failures, no_failures, failed_at, opens_well, is_attempt_on, failures_after, failures}
+use Rattle.route_events.specs.Answers.{newest_answer, answer_at}
+use Rattle.route_events.specs.Backoff.{is_direct, Failures, no_failures, failed_at, opens_well, is_attempt_on, failures_after, failures}
 use Rattle.route_events.specs.Alike.{Alike, brought}
 use Rattle.alt_base.proofs.Lists.{filter_within}
 use Rattle.route_events.proofs.Lists.{filter_swap}
@@ -96,12 +99,31 @@ same_failures f g counts lasts =
     let by_last : record { count = g.count; last = f.last } ≡ g = ap (λ (n : ℕ). record { count = g.count; last = n }) lasts in
     by_count ∙ by_last
 
--- two histories that are alike have the same failures of each route by an alternative
-pub alike_failures : (j k : Journal) (o : Origin) (key : AltKey) → Alike j k → failures j o (route.Alt key) ≡ failures k o (route.Alt key)
-alike_failures j k o key alike = by_count (alike.last o key) (alike.failed o key)
+-- two histories that are alike have the same failures of each route but the direct one
+pub alike_failures : (j k : Journal) (o : Origin) (r : Route) → is_direct r ≡ false → Alike j k → failures j o r ≡ failures k o r
+alike_failures j k o r other alike = by_count (alike.last o r other) (alike.failed o r other)
   where
-    by_count :
-        ((failures j o (route.Alt key)).count ≡ 0) ⊎ ((failures j o (route.Alt key)).last ≡ (failures k o (route.Alt key)).last) →
-        (failures j o (route.Alt key)).count ≡ (failures k o (route.Alt key)).count → failures j o (route.Alt key) ≡ failures k o (route.Alt key)
-    by_count (inl none) same = none_failed j o (route.Alt key) none ∙ sym (none_failed k o (route.Alt key) (sym same ∙ none))
-    by_count (inr last) same = same_failures (failures j o (route.Alt key)) (failures k o (route.Alt key)) same last
+    by_count : ((failures j o r).count ≡ 0) ⊎ ((failures j o r).last ≡ (failures k o r).last) → (failures j o r).count ≡ (failures k o r).count → failures j o r ≡ failures k o r
+    by_count (inl none) same = none_failed j o r none ∙ sym (none_failed k o r (sym same ∙ none))
+    by_count (inr last) same = same_failures (failures j o r) (failures k o r) same last
+
+-- what is in force at a moment was so at each earlier one behind its own
+pub later_body : {B : Type 0} (s now : ℕ) (w : Option (Held B)) → s ≤ now → body_at now w ≡ body_at now (in_force s w)
+later_body s now None h = refl
+later_body {B} s now (Some held) h = by_test (is_in_force s held) refl
+  where
+    ended : (moment ttl : ℕ) → nat_lt (s - moment) ttl ≡ false → nat_lt (now - moment) ttl ≡ false
+    ended moment ttl e = grind arith
+
+    by_test : (b : Bool) → is_in_force s held ≡ b → body_at now (Some held) ≡ body_at now (cond b (Some held) None)
+    by_test true e = refl
+    by_test false e = ap (λ (b : Bool). cond b (Some held.body) None) (ended held.moment held.ttl e)
+
+-- two histories that are alike have the same answers at each later moment
+pub alike_answers : {B : Type 0} (j k : Journal) (brings : AnswerBody → Option B) (name : NameOf) (now : ℕ) → newest_moment j ≡ newest_moment k →
+    in_force (newest_moment j) (newest_answer brings j name) ≡ in_force (newest_moment k) (newest_answer brings k name) → newest_moment j ≤ now →
+    answer_at brings j now name ≡ answer_at brings k now name
+alike_answers j k brings name now at same later =
+    later_body (newest_moment j) now (newest_answer brings j name) later
+    ∙ ap (body_at now) same
+    ∙ sym (later_body (newest_moment k) now (newest_answer brings k name) (subst (λ s. s ≤ now) at later))

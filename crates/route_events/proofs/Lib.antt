@@ -6,6 +6,7 @@ pub mod FailuresInWords
 pub mod Candidates
 pub mod Apart
 pub mod Elsewhere
+pub mod AnswersInWords
 pub mod Sound
 pub mod OutstandingInWords
 pub mod Quiet
@@ -16,6 +17,8 @@ pub mod Deliveries
 pub mod PartsKeep
 pub mod Pieces
 pub mod PiecesDone
+pub mod PiecesCounted
 pub mod PiecesLater
 pub mod PiecesJoin
 pub mod GoingOn
+pub mod WorkedAlike

@@ -1,15 +1,21 @@
 -- Two journals that differ in how octets were cut into inputs say the same, but for the octets.
-use Rattle.std.proofs.Common.{◌≡◌, ℕ, ◌+◌, Bool, false, cond, not, ◌&&◌, ◌||◌, nat_eq, List, [], ◌∷◌, ◌++◌, Option, Some, None, filter, find, refl, ap, sym, ◌∙◌}
+use Rattle.std.proofs.Common.{◌≡◌, ℕ, ◌+◌, Bool, false, cond, not, ◌&&◌, ◌||◌, nat_eq, List, [], ◌∷◌, ◌++◌, Option, Some, None, map, filter, find, refl, ap, sym, ◌∙◌}
 use Rattle.std.specs.Option.{option_map, option_map_or}
 use Rattle.std.specs.List.{list_any}
-use Rattle.origin_values.specs.Equality.{origin_eq}
+use Rattle.origin_values.specs.Equality.{host_eq, origin_eq}
+use Rattle.origin_values.specs.declared.address.Addr.{Addr}
 use Rattle.origin_values.specs.declared.origin.Origin.{Origin}
+use Rattle.alias_chain.specs.Held.{body_at}
+use Rattle.alias_chain.specs.Walk.{NameOf}
+use Rattle.alias_chain.specs.Following.{endpoints_by}
 use Rattle.altsvc_grammar.specs.declared.alt.Alt.{Alt as Alternative}
+use Rattle.route_events.specs.declared.answer.AnswerBody.{AnswerBody}
 use Rattle.altsvc_grammar.specs.declared.alt_key.AltKey.{AltKey}
 use Rattle.route_events.specs.declared.fact.Fact.{Fact}
 use Rattle.route_events.specs.declared.fact.Fact.TheVariants.{Opened, Failed, Response, Input, Delivered, Network}
 use Rattle.route_events.specs.declared.action.Action.TheVariants.{SendOn, Lost, Alternatives}
 use Rattle.route_events.specs.declared.route.Route.{Route}
+use Rattle.route_events.specs.declared.route.Route.TheVariants.{Rec}
 use Rattle.route_events.specs.declared.request.Request.{Request}
 use Rattle.route_events.specs.declared.attempt.Attempt.{Attempt}
 use Rattle.route_events.specs.declared.connection.Connection.{Connection}
@@ -17,12 +23,14 @@ use Rattle.route_events.specs.Journal.{Entry, Happened, Cut, Taken, Journal, of_
 use Rattle.route_events.specs.Attempts.{attempt_in, ended_in, attempts, ends, has_ended, pending, pending_attempt}
 use Rattle.route_events.specs.Requests.{request_in, requests, request_of, standing, waits, waiting, sent_to}
 use Rattle.route_events.specs.Connections.{connection_in, connections, closes, is_open, open_connections, open_connection, without, without_any, answered_in, is_one_of, outstanding, send_count}
-use Rattle.route_events.specs.OriginSets.{gates, lists, came_on, is_initial}
+use Rattle.route_events.specs.Answers.{addresses4, addresses6, records, answer_after, newest_answer}
+use Rattle.route_events.specs.OriginSets.{addr_host, gates, lists, came_on, is_initial}
+use Rattle.route_events.specs.Addresses.{is_listed_by, name_of, is_address_of}
 use Rattle.route_events.specs.Misdirection.{turned_away_in, turns_away, was_opened_by, gives_up, is_misdirected}
 use Rattle.route_events.specs.Alternatives.{alternatives_of, newest_age, is_fresh, left_by, live}
 use Rattle.route_events.specs.Authority.{gives, is_success, is_upheld, record_of, authorises, is_authoritative}
 use Rattle.route_events.specs.Backoff.{is_on, is_attempt_on, failed_at, no_failures, failures_after, failures}
-use Rattle.route_events.specs.Routes.{is_arrival, was_tried}
+use Rattle.route_events.specs.Routes.{supported, endpoints, is_arrival, was_tried}
 
 -- the second journal is the first, but that inputs have other octets, and that some of the first are not in it: those that
 -- came at the moment of what was below them, where no value can be taken any more that is older
@@ -60,7 +68,7 @@ newest_same read none (Pieces {older} {other} m c a b h p) =
     ap (λ w. option_map_or Some w (newest read older)) (none m c a h) ∙ newest_same read none p ∙ ap (λ w. option_map_or Some w (newest read other)) (sym (none m c b h))
 newest_same read none (Further {older} {other} m c a h at old p) = ap (λ w. option_map_or Some w (newest read older)) (none m c a h) ∙ newest_same read none p
 
-readings_same :
+pub readings_same :
     {X : Type 0} {j k : Journal} (read : Journal → Entry → Option X) → ((i : Journal) (m c : ℕ) (b : List ℕ) (h : Bool) → read i (Happened m (Input c b) h) ≡ None) →
     ((i l : Journal) → Pieced i l → (entry : Entry) → read i entry ≡ read l entry) → Pieced j k → readings read j ≡ readings read k
 readings_same read none same Begun = refl
@@ -222,8 +230,26 @@ record_same p c = λ i. record {
   sends = sends_same p c.number i;
 }
 
+-- answers, addresses and endpoints
+
+pub newest_answer_same : {B : Type 0} {j k : Journal} (brings : AnswerBody → Option B) → Pieced j k → (name : NameOf) → newest_answer brings j name ≡ newest_answer brings k name
+newest_answer_same brings Begun name = refl
+newest_answer_same brings (Both (Happened m f h) p) name = ap (answer_after brings name m f) (newest_answer_same brings p name)
+newest_answer_same brings (Both (Cut m c count) p) name = newest_answer_same brings p name
+newest_answer_same brings (Both (Taken a) p) name = newest_answer_same brings p name
+newest_answer_same brings (Pieces m c a b h p) name = newest_answer_same brings p name
+newest_answer_same brings (Further m c a h at old p) name = newest_answer_same brings p name
+
+address_same : {j k : Journal} → Pieced j k → (o : Origin) (now : ℕ) (addr : Addr) → is_address_of j o now addr ≡ is_address_of k o now addr
+address_same p o now addr = λ i.
+    host_eq (addr_host addr) o.host
+    || option_map_or (λ name. is_listed_by addr (body_at now (newest_answer_same addresses4 p name i)) (body_at now (newest_answer_same addresses6 p name i))) (name_of o.host) false
+
+pub endpoints_same : {j k : Journal} → Pieced j k → (o : Origin) (now : ℕ) → endpoints j o now ≡ endpoints k o now
+endpoints_same p o now = λ i. map Rec (endpoints_by (λ name. body_at now (newest_answer_same records p name i)) supported o)
+
 pub authority_same : {j k : Journal} → Pieced j k → (c : Connection) (o : Origin) (now : ℕ) → is_authoritative j c o now ≡ is_authoritative k c o now
-authority_same p c o now = λ i. open_same p c i && authorises (record_same p c i) o (record { address = false })
+authority_same p c o now = λ i. open_same p c i && authorises (record_same p c i) o (record { address = address_same p o now c.addr i })
 
 -- failures and routes
 

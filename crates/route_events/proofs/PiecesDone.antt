@@ -27,7 +27,7 @@ use Rattle.route_events.specs.Dispatch.{carriers, free_carriers, first_of, or_el
 use Rattle.route_events.specs.FrameAdvertisements.{request_on, spoken_for, value_action, reading_action, origin_action, frame_action, frame_effects}
 use Rattle.route_events.specs.Step.{with_actions, part_effects, with_part, settle, settled, follow, actions}
 use Rattle.route_events.proofs.Parts.{IsBehind, AreBehind}
-use Rattle.route_events.proofs.Pieces.{Pieced, Begun, Both, Pieces, Further, attempts_same, pending_same, request_of_same, waiting_same, sent_to_same, connections_same, open_connections_same, open_connection_same, outstanding_same, sends_same, live_same, record_same, authority_same, failures_same, tried_same}
+use Rattle.route_events.proofs.Pieces.{Pieced, Begun, Both, Pieces, Further, attempts_same, pending_same, request_of_same, waiting_same, sent_to_same, connections_same, open_connections_same, open_connection_same, outstanding_same, sends_same, live_same, record_same, endpoints_same, authority_same, failures_same, tried_same}
 
 -- dispatch
 
@@ -47,7 +47,7 @@ first_same p o now = λ i. find (λ r. not (is_barred_by (failures_same p o r i)
 
 usable_same : {j k : Journal} → Pieced j k → (q : Request) (now : ℕ) → usable_routes j q now ≡ usable_routes k q now
 usable_same p q now = λ i.
-    filter (λ r. not (is_barred_by (failures_same p q.origin r i) r now) && not (tried_same p q r i)) ((by_alternatives (live_same p q.origin now i) ++ []) ++ Direct ∷ [])
+    filter (λ r. not (is_barred_by (failures_same p q.origin r i) r now) && not (tried_same p q r i)) ((by_alternatives (live_same p q.origin now i) ++ endpoints_same p q.origin now i) ++ Direct ∷ [])
 
 awaited_same : {j k : Journal} → Pieced j k → (o : Origin) (r : Route) → has_pending j o r ≡ has_pending k o r
 awaited_same p o r = ap (list_any (is_on o r)) (pending_same p)

@@ -3,7 +3,7 @@ use Rattle.std.proofs.Common.{◌≡◌, ℕ, ◌+◌, ◌≤◌, ◌<◌, Bool,
 use Rattle.std.specs.Option.{option_map, option_map_or}
 use Rattle.std.specs.List.{list_any}
 use Rattle.route_events.specs.declared.fact.Fact.{Fact}
-use Rattle.route_events.specs.declared.fact.Fact.TheVariants.{Request, Opened, Failed, Closed, Response, Input, Delivered, Network, Tick, Who}
+use Rattle.route_events.specs.declared.fact.Fact.TheVariants.{Request, Opened, Failed, Closed, Response, Input, Delivered, Answer, Network, Tick, Who, Stats}
 use Rattle.route_events.specs.declared.action.Action.{Action}
 use Rattle.route_events.specs.declared.action.Action.TheVariants.{Lost, Field}
 use Rattle.route_events.specs.declared.action.Action.TheVariants as action
@@ -21,6 +21,7 @@ use Rattle.route_events.specs.Step.{frame_refusal, fact_refusal, refusal, with_a
 use Rattle.route_events.proofs.Parts.{IsBehind, AreBehind, all_behind}
 use Rattle.route_events.proofs.PartsKeep.{octets_step}
 use Rattle.route_events.proofs.Pieces.{Pieced, Both, moment_same, newest_same, pending_attempt_same, request_of_same, standing_same, open_connections_same, open_connection_same, outstanding_same, authority_same}
+use Rattle.route_events.proofs.PiecesCounted.{stats_same}
 use Rattle.route_events.proofs.PiecesDone.{carriers_same, with_same, settled_same, frame_same, follow_same, actions_same}
 
 pub record Twins (j k : Journal) : Type 0 where
@@ -53,6 +54,7 @@ fact_same j k now fact p =
 
 told_same : {j k : Journal} → Pieced j k → (now : ℕ) (fact : Fact) → answer_to j now fact ≡ answer_to k now fact
 told_same p now (Who o) = λ i. action.Who o (map (λ (c : Connection). c.number) (carriers_same p o now i)) ∷ []
+told_same p now Stats = λ i. stats_same p now i ∷ []
 told_same p now _ = refl
 
 answer_same : (j k : Journal) (now : ℕ) (fact : Fact) → Pieced j k → Pieced (with_answer j now fact) (with_answer k now fact)
@@ -91,6 +93,8 @@ reason_same p (Delivered n head payload) = ap frame_refusal (open_connection_sam
 reason_same p Network = refl
 reason_same p Tick = refl
 reason_same p (Who o) = refl
+reason_same p (Answer name ttl body) = refl
+reason_same p Stats = refl
 
 not_spent : (j : Journal) (now : ℕ) (fact : Fact) → step_count j < 16777215 → refusal j now fact ≡ cond (nat_lt now (newest_moment j)) (Some (TimeBack (record { 0 = newest_moment j }))) (fact_refusal j fact)
 not_spent j now fact fewer = rw (other (step_count j) 16777215 fewer) refl

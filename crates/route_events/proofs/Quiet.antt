@@ -5,7 +5,7 @@ use Rattle.std.specs.List.{list_any}
 use Rattle.std.proofs.lemmas.List.Folds.{list_any-append}
 use Rattle.origin_values.specs.declared.host.Host.{Host}
 use Rattle.origin_values.specs.declared.origin.Origin.{Origin}
-use Rattle.route_events.specs.declared.action.Action.TheVariants.{OpenTo, SendOn, Refuse, Who}
+use Rattle.route_events.specs.declared.action.Action.TheVariants.{OpenTo, SendOn, Refuse, Who, Stats}
 use Rattle.route_events.specs.declared.route.Route.{Route}
 use Rattle.route_events.specs.declared.request.Request.{Request}
 use Rattle.route_events.specs.declared.attempt.Attempt.{Attempt}
@@ -203,6 +203,19 @@ opened_pending j o r sound =
 -- time that passes within one moment
 pub quiet_tick : (j : Journal) → Quiet j (Happened (newest_moment j) Tick true ∷ j) (newest_moment j)
 quiet_tick j = record {
+  moment_same = refl;
+  requests_same = refl;
+  connections_same = refl;
+  authority_same = λ c o. refl;
+  routes_same = λ o. refl;
+  usable_same = λ q r. refl;
+  busy_stays = λ d h. h;
+  pending_stays = λ o r h. h;
+}
+
+-- what is counted
+pub quiet_counted : (j : Journal) (now alternatives answers broken open_now waiting_now : ℕ) → Quiet j (Taken (Stats alternatives answers broken open_now waiting_now) ∷ j) now
+quiet_counted j now alternatives answers broken open_now waiting_now = record {
   moment_same = refl;
   requests_same = refl;
   connections_same = refl;

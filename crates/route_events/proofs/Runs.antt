@@ -1,5 +1,5 @@
 -- The laws of all runs.
-use Rattle.std.proofs.Common.{◌≡◌, ℕ, Bool, true, false, cond, not, nat_eq, List, [], ◌∷◌, ◌++◌, map, Option, Some, None, is_some, Result, Ok, Err, All, refl, sym, ◌∙◌, subst}
+use Rattle.std.proofs.Common.{◌≡◌, ℕ, Bool, true, false, cond, not, nat_eq, List, [], ◌∷◌, ◌++◌, map, length, Option, Some, None, is_some, Result, Ok, Err, All, refl, sym, ◌∙◌, subst}
 use Rattle.std.specs.Option.{option_map_or}
 use Rattle.alt_base.specs.declared.refusal.At.{At}
 use Rattle.h2_framing.specs.declared.head.Head.{Head}
@@ -14,17 +14,22 @@ use Rattle.altsvc_grammar.specs.declared.alt_svc.AltSvc.{AltSvc}
 use Rattle.altsvc_grammar.specs.declared.refusal.AltRefusal.{AltRefusal}
 use Rattle.altsvc_grammar.specs.ValueReading.{read_value}
 use Rattle.route_events.specs.declared.fact.Fact.{Fact}
-use Rattle.route_events.specs.declared.fact.Fact.TheVariants.{Closed, Response, Input, Delivered, Tick}
+use Rattle.route_events.specs.declared.fact.Fact.TheVariants.{Closed, Response, Input, Delivered, Answer, Tick}
 use Rattle.route_events.specs.declared.fact.Fact.TheVariants as fact
+use Rattle.alias_chain.specs.Walk.{NameOf}
+use Rattle.route_events.specs.declared.answer.AnswerBody.{AnswerBody}
+use Rattle.route_events.specs.declared.answer.AnswerBody.TheVariants.{V4, V6, Https}
 use Rattle.route_events.specs.declared.action.Action.{Action}
-use Rattle.route_events.specs.declared.action.Action.TheVariants.{Lost, Retry, Alternatives, Field, Ignored, Who}
+use Rattle.route_events.specs.declared.action.Action.TheVariants.{Lost, Retry, Alternatives, Field, Ignored, Who, Stats}
 use Rattle.route_events.specs.declared.refusal.StepRefusal.{StepRefusal}
 use Rattle.route_events.specs.declared.request.Request.{Request}
 use Rattle.route_events.specs.declared.connection.Connection.{Connection}
 use Rattle.route_events.specs.Journal.{Entry, Happened, Cut, Taken, Journal, newest_moment}
 use Rattle.route_events.specs.Attempts.{has_ended}
 use Rattle.route_events.specs.Requests.{requests, request_of, standing, waits, waiting}
-use Rattle.route_events.specs.Connections.{is_https, is_tls, open_connection, outstanding}
+use Rattle.route_events.specs.Connections.{is_https, is_tls, open_connections, open_connection, outstanding}
+use Rattle.route_events.specs.Answers.{Records, read_records, malformed, malformed_effects}
+use Rattle.route_events.specs.Counts.{live_count, answer_count, broken_count, capped}
 use Rattle.route_events.specs.Authority.{is_authoritative}
 use Rattle.route_events.specs.Frames.{octets_on, deliveries}
 use Rattle.route_events.specs.Dispatch.{carriers, dispatch}
@@ -33,8 +38,8 @@ use Rattle.route_events.specs.Advertisements.{is_answered_by_authority, value_ta
 use Rattle.route_events.specs.Step.{IsRun, Begun, Stepped, refusal, settled, step, run, effects, cut_effects, with_part, with_fact, follow, parts_of, with_answer}
 use Rattle.route_events.specs.Headline.{MayWait, IsAllowed, EachAction}
 use Rattle.route_events.proofs.Lists.{IsIn, in_filter, filter_in, apart_filter, all_from_in}
-use Rattle.route_events.proofs.Sound.{Sound, sound_begun, sound_fact, sound_delivered, sound_cut, sound_told, used_of, input_open}
-use Rattle.route_events.proofs.Quiet.{rests_still, quiet_tick, quiet_told}
+use Rattle.route_events.proofs.Sound.{Sound, sound_begun, sound_fact, sound_delivered, sound_cut, sound_told, sound_counted, used_of, input_open}
+use Rattle.route_events.proofs.Quiet.{rests_still, quiet_tick, quiet_told, quiet_counted}
 use Rattle.route_events.proofs.Parts.{IsBehind, AreBehind, all_behind, ended_part}
 use Rattle.route_events.proofs.Settles.{Settles, settles, settle_nothing, may_wait, IsEffect, AreEffects, effected}
 
@@ -102,7 +107,7 @@ answer_effect j now q status altsvc = by_misdirected (nat_eq status 421)
     by_misdirected true = (tt, field_effect_of j now status altsvc (request_of j q))
     by_misdirected false = field_effect_of j now status altsvc (request_of j q)
 
-are_lost : (qs : List ℕ) → AreEffects (map Lost qs)
+pub are_lost : (qs : List ℕ) → AreEffects (map Lost qs)
 are_lost [] = tt
 are_lost (q ∷ qs) = (tt, are_lost qs)
 
@@ -153,10 +158,21 @@ frame_effect j now conn head payload = by_connection (open_connection j conn)
     by_connection None = tt
     by_connection (Some c) = by_kinds c (nat_eq head.kind 10) (nat_eq head.kind 12)
 
+-- what is done for an answer is at most to name a malformed record
+malformed_effect : (name : NameOf) (body : AnswerBody) → AreEffects (malformed_effects name body)
+malformed_effect name (V4 addresses) = tt
+malformed_effect name (V6 addresses) = tt
+malformed_effect name (Https rdatas) = by_reading (read_records 1 rdatas)
+  where
+    by_reading : (w : Records) → AreEffects (malformed name w)
+    by_reading (Ok rs) = tt
+    by_reading (Err first) = (tt, tt)
+
 pub are_effects : (j : Journal) (now : ℕ) (fact : Fact) → AreEffects (effects j now fact)
 are_effects j now (Closed conn) = are_lost (outstanding j conn)
 are_effects j now (Response q status age altsvc) = answer_effect j now q status altsvc
 are_effects j now (Delivered conn head payload) = frame_effect j now conn head payload
+are_effects j now (Answer name ttl body) = malformed_effect name body
 are_effects j now _ = tt
 
 -- the fact of a step, with its effect and settled
@@ -195,8 +211,19 @@ told_is j o cs was = record {
   rests = λ q found. rests_still j (Taken (Who o cs) ∷ j) (newest_moment j) q (quiet_told j (newest_moment j) o cs) (was.rests q found);
 }
 
+counted_is : (j : Journal) (alternatives answers broken open_now waiting_now : ℕ) → IsSettled j → IsSettled (Taken (Stats alternatives answers broken open_now waiting_now) ∷ j)
+counted_is j alternatives answers broken open_now waiting_now was = record {
+  sound = sound_counted j alternatives answers broken open_now waiting_now was.sound;
+  allowed = (tt, was.allowed);
+  rests = λ q found.
+      rests_still j (Taken (Stats alternatives answers broken open_now waiting_now) ∷ j) (newest_moment j) q
+      (quiet_counted j (newest_moment j) alternatives answers broken open_now waiting_now) (was.rests q found);
+}
+
 answer_is : (j : Journal) (now : ℕ) (fact : Fact) → IsSettled j → IsSettled (with_answer j now fact)
 answer_is j now (fact.Who o) was = told_is j o (map (λ (c : Connection). c.number) (carriers j o now)) was
+answer_is j now fact.Stats was =
+    counted_is j (capped (live_count j now)) (capped (answer_count j now)) (capped (broken_count j now)) (capped (length (open_connections j))) (capped (length (waiting j))) was
 answer_is j now fact was = was
 
 pub step_is : (j : Journal) (now : ℕ) (fact : Fact) → refusal j now fact ≡ None → IsSettled j → IsSettled (step j now fact)

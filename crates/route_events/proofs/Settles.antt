@@ -4,7 +4,7 @@ use Rattle.std.specs.Option.{option_map_or}
 use Rattle.std.specs.List.{list_any}
 use Rattle.origin_values.specs.declared.origin.Origin.{Origin}
 use Rattle.route_events.specs.declared.action.Action.{Action}
-use Rattle.route_events.specs.declared.action.Action.TheVariants.{OpenTo, Refuse, Lost, Retry, Close, Alternatives, Field, Ignored, Origins}
+use Rattle.route_events.specs.declared.action.Action.TheVariants.{OpenTo, Refuse, Lost, Retry, Close, Alternatives, Field, Ignored, Origins, Malformed}
 use Rattle.route_events.specs.declared.route.Route.{Route}
 use Rattle.route_events.specs.declared.request.Request.{Request}
 use Rattle.route_events.specs.declared.connection.Connection.{Connection}
@@ -18,7 +18,7 @@ use Rattle.route_events.specs.Dispatch.{carriers, free_carriers, best, send, ope
 use Rattle.route_events.specs.Step.{with_actions, settle}
 use Rattle.route_events.specs.Headline.{MaySend, MayRefuse, MayWait, IsAllowed, EachAction}
 use Rattle.route_events.proofs.Lists.{IsIn, AreApart, in_filter, find_apart, none_left, some_in, any_from_in, all_from_in}
-use Rattle.route_events.proofs.Sound.{Sound, sound_send, sound_open, sound_refuse, sound_lost, sound_retry, sound_close, sound_alternatives, sound_field, sound_ignored, sound_origins}
+use Rattle.route_events.proofs.Sound.{Sound, sound_send, sound_open, sound_refuse, sound_lost, sound_retry, sound_close, sound_alternatives, sound_field, sound_ignored, sound_origins, sound_malformed}
 use Rattle.route_events.proofs.Quiet.{Quiet, quiet_same, quiet_twice, quiet_send, quiet_open, quiet_refuse, usable_routes_same, none_freed, best_none, none_best, best_in, is_none_left, resting, rested, rests_still, opened_pending}
 use Rattle.alt_base.proofs.Booleans.{contradicts}
 use Rattle.alt_base.proofs.Numbers.{eq_self}
@@ -270,6 +270,7 @@ IsEffect (Alternatives o value) = Unit {0}
 IsEffect (Field q reason place) = Unit {0}
 IsEffect (Ignored c kind reason place) = Unit {0}
 IsEffect (Origins c taken skipped) = Unit {0}
+IsEffect (Malformed name item reason place) = Unit {0}
 IsEffect _ = ⊥
 
 abbrev pub AreEffects : List Action → Type 0
@@ -289,6 +290,7 @@ effected_one j (Alternatives o value) h = record { sound = sound_alternatives j 
 effected_one j (Field q reason place) h = record { sound = sound_field j q reason place; allowed = λ h. (tt, h); moment = refl }
 effected_one j (Ignored c kind reason place) h = record { sound = sound_ignored j c kind reason place; allowed = λ h. (tt, h); moment = refl }
 effected_one j (Origins c taken skipped) h = record { sound = sound_origins j c taken skipped; allowed = λ h. (tt, h); moment = refl }
+effected_one j (Malformed name item reason place) h = record { sound = sound_malformed j name item reason place; allowed = λ h. (tt, h); moment = refl }
 effected_one j _ h = absurd h
 
 pub effected : (j : Journal) (as' : List Action) → AreEffects as' → Effected j (with_actions j as')

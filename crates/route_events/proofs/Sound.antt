@@ -10,9 +10,11 @@ use Rattle.origin_values.specs.declared.origin.Origin.{Origin}
 use Rattle.origin_values.specs.declared.host.Host.{Host}
 use Rattle.origin_values.specs.declared.proto.Proto.{Proto}
 use Rattle.origin_values.specs.declared.address.Addr.{Addr}
+use Rattle.alias_chain.specs.Walk.{NameOf}
+use Rattle.route_events.specs.declared.answer.AnswerBody.{AnswerBody}
 use Rattle.route_events.specs.declared.fact.Fact.{Fact}
 use Rattle.route_events.specs.declared.fact.Fact.TheVariants as fact
-use Rattle.route_events.specs.declared.action.Action.TheVariants.{OpenTo, SendOn, Refuse, Lost, Retry, Close, Alternatives, Field, Ignored, Origins, Who}
+use Rattle.route_events.specs.declared.action.Action.TheVariants.{OpenTo, SendOn, Refuse, Lost, Retry, Close, Alternatives, Field, Ignored, Origins, Malformed, Who, Stats}
 use Rattle.route_events.specs.declared.route.Route.{Route}
 use Rattle.route_events.specs.declared.request.Request.{Request}
 use Rattle.route_events.specs.declared.attempt.Attempt.{Attempt}
@@ -191,8 +193,14 @@ sound_ignored j c kind reason place sound = record { counted = sound.counted; no
 pub sound_origins : (j : Journal) (c taken skipped : ℕ) → Sound j → Sound (Taken (Origins c taken skipped) ∷ j)
 sound_origins j c taken skipped sound = record { counted = sound.counted; not_ended = sound.not_ended; attempts_apart = sound.attempts_apart; requests_apart = sound.requests_apart; newest = sound.newest; connections_apart = sound.connections_apart; ended = sound.ended; out_stands = sound.out_stands; out_known = sound.out_known; unused = sound.unused }
 
+pub sound_malformed : (j : Journal) (name : NameOf) (item reason place : ℕ) → Sound j → Sound (Taken (Malformed name item reason place) ∷ j)
+sound_malformed j name item reason place sound = record { counted = sound.counted; not_ended = sound.not_ended; attempts_apart = sound.attempts_apart; requests_apart = sound.requests_apart; newest = sound.newest; connections_apart = sound.connections_apart; ended = sound.ended; out_stands = sound.out_stands; out_known = sound.out_known; unused = sound.unused }
+
 pub sound_told : (j : Journal) (o : Origin) (cs : List ℕ) → Sound j → Sound (Taken (Who o cs) ∷ j)
 sound_told j o cs sound = record { counted = sound.counted; not_ended = sound.not_ended; attempts_apart = sound.attempts_apart; requests_apart = sound.requests_apart; newest = sound.newest; connections_apart = sound.connections_apart; ended = sound.ended; out_stands = sound.out_stands; out_known = sound.out_known; unused = sound.unused }
+
+pub sound_counted : (j : Journal) (alternatives answers broken open_now waiting_now : ℕ) → Sound j → Sound (Taken (Stats alternatives answers broken open_now waiting_now) ∷ j)
+sound_counted j alternatives answers broken open_now waiting_now sound = record { counted = sound.counted; not_ended = sound.not_ended; attempts_apart = sound.attempts_apart; requests_apart = sound.requests_apart; newest = sound.newest; connections_apart = sound.connections_apart; ended = sound.ended; out_stands = sound.out_stands; out_known = sound.out_known; unused = sound.unused }
 
 -- facts
 
@@ -393,6 +401,12 @@ sound_delivered j now c head payload handed_in sound = record { counted = sound.
 pub sound_who : (j : Journal) (now : ℕ) (o : Origin) (handed_in : Bool) → Sound j → Sound (Happened now (fact.Who o) handed_in ∷ j)
 sound_who j now o handed_in sound = record { counted = sound.counted; not_ended = sound.not_ended; attempts_apart = sound.attempts_apart; requests_apart = sound.requests_apart; newest = sound.newest; connections_apart = sound.connections_apart; ended = sound.ended; out_stands = sound.out_stands; out_known = sound.out_known; unused = sound.unused }
 
+pub sound_answer : (j : Journal) (now : ℕ) (name : NameOf) (ttl : ℕ) (body : AnswerBody) (handed_in : Bool) → Sound j → Sound (Happened now (fact.Answer name ttl body) handed_in ∷ j)
+sound_answer j now name ttl body handed_in sound = record { counted = sound.counted; not_ended = sound.not_ended; attempts_apart = sound.attempts_apart; requests_apart = sound.requests_apart; newest = sound.newest; connections_apart = sound.connections_apart; ended = sound.ended; out_stands = sound.out_stands; out_known = sound.out_known; unused = sound.unused }
+
+pub sound_stats : (j : Journal) (now : ℕ) (handed_in : Bool) → Sound j → Sound (Happened now fact.Stats handed_in ∷ j)
+sound_stats j now handed_in sound = record { counted = sound.counted; not_ended = sound.not_ended; attempts_apart = sound.attempts_apart; requests_apart = sound.requests_apart; newest = sound.newest; connections_apart = sound.connections_apart; ended = sound.ended; out_stands = sound.out_stands; out_known = sound.out_known; unused = sound.unused }
+
 -- each fact that isn't refused
 pub sound_fact : (j : Journal) (now : ℕ) (fact : Fact) → refusal j now fact ≡ None → Sound j → Sound (Happened now fact true ∷ j)
 sound_fact j now (fact.Request n o) free sound = sound_request j now n o true (above_newest j now n o free) sound
@@ -405,3 +419,5 @@ sound_fact j now (fact.Delivered c head payload) free sound = sound_delivered j 
 sound_fact j now fact.Network free sound = record { counted = sound.counted; not_ended = sound.not_ended; attempts_apart = sound.attempts_apart; requests_apart = sound.requests_apart; newest = sound.newest; connections_apart = sound.connections_apart; ended = sound.ended; out_stands = sound.out_stands; out_known = sound.out_known; unused = sound.unused }
 sound_fact j now fact.Tick free sound = record { counted = sound.counted; not_ended = sound.not_ended; attempts_apart = sound.attempts_apart; requests_apart = sound.requests_apart; newest = sound.newest; connections_apart = sound.connections_apart; ended = sound.ended; out_stands = sound.out_stands; out_known = sound.out_known; unused = sound.unused }
 sound_fact j now (fact.Who o) free sound = sound_who j now o true sound
+sound_fact j now (fact.Answer name ttl body) free sound = sound_answer j now name ttl body true sound
+sound_fact j now fact.Stats free sound = sound_stats j now true sound

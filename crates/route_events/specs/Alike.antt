@@ -1,11 +1,11 @@
 -- Which two histories are alike: they share all that a later step can ask for. What else they hold may be forgotten: how
 -- the direct route failed, the routes tried for requests that ended, connections that closed, values that ended.
-use Rattle.std.specs.Prelude.{◌≡◌, ◌⊎◌, ℕ, true, [], length, Option, Some, All}
+use Rattle.std.specs.Prelude.{◌≡◌, ◌⊎◌, ℕ, true, false, [], length, Option, Some, All}
 use Rattle.std.specs.Option.{option_map}
 use Rattle.origin_values.specs.declared.origin.Origin.{Origin}
-use Rattle.altsvc_grammar.specs.declared.alt_key.AltKey.{AltKey}
+use Rattle.alias_chain.specs.Held.{in_force}
+use Rattle.alias_chain.specs.Walk.{NameOf}
 use Rattle.route_events.specs.declared.route.Route.{Route}
-use Rattle.route_events.specs.declared.route.Route.TheVariants.{Alt}
 use Rattle.h2_framing.specs.Reading.{held_part}
 use Rattle.route_events.specs.declared.request.Request.{Request}
 use Rattle.route_events.specs.declared.connection.Connection.{Connection}
@@ -17,7 +17,8 @@ use Rattle.route_events.specs.Frames.{unfinished_on}
 use Rattle.route_events.specs.Alternatives.{Took, live, took}
 use Rattle.route_events.specs.Records.{ConnectionRecord}
 use Rattle.route_events.specs.Authority.{record_of}
-use Rattle.route_events.specs.Backoff.{failures}
+use Rattle.route_events.specs.Answers.{addresses4, addresses6, records, newest_answer}
+use Rattle.route_events.specs.Backoff.{is_direct, failures}
 use Rattle.route_events.specs.Routes.{was_tried}
 
 -- a connection says the same in both: whether it has a basis, whether it has an origin set, which origins that holds, for
@@ -60,9 +61,13 @@ pub record Alike (j k : Journal) : Type 0 where
   -- the live alternatives of each origin and, where there is one, the moment and age of their value
   pub alternatives : (o : Origin) → live j o (newest_moment j) ≡ live k o (newest_moment k)
   pub brought : (o : Origin) → (live j o (newest_moment j) ≡ []) ⊎ (brought (took j o) ≡ brought (took k o))
-  -- how often each route by an alternative failed in a row and, where it did, when last
-  pub failed : (o : Origin) (key : AltKey) → (failures j o (Alt key)).count ≡ (failures k o (Alt key)).count
-  pub last : (o : Origin) (key : AltKey) → ((failures j o (Alt key)).count ≡ 0) ⊎ ((failures j o (Alt key)).last ≡ (failures k o (Alt key)).last)
+  -- the answers in force of each name and kind, with the moment and the TTL of each
+  pub v4_answers : (name : NameOf) → in_force (newest_moment j) (newest_answer addresses4 j name) ≡ in_force (newest_moment k) (newest_answer addresses4 k name)
+  pub v6_answers : (name : NameOf) → in_force (newest_moment j) (newest_answer addresses6 j name) ≡ in_force (newest_moment k) (newest_answer addresses6 k name)
+  pub https_answers : (name : NameOf) → in_force (newest_moment j) (newest_answer records j name) ≡ in_force (newest_moment k) (newest_answer records k name)
+  -- how often each route but the direct one failed in a row and, where it did, when last
+  pub failed : (o : Origin) (r : Route) → is_direct r ≡ false → (failures j o r).count ≡ (failures k o r).count
+  pub last : (o : Origin) (r : Route) → is_direct r ≡ false → ((failures j o r).count ≡ 0) ⊎ ((failures j o r).last ≡ (failures k o r).last)
   -- the pending attempts, and the open connections in the order of their opening
   pub pending : pending j ≡ pending k
   pub connections : open_connections j ≡ open_connections k

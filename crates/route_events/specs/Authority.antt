@@ -1,13 +1,15 @@
 -- Which connection is authoritative for an origin (RFC 9110 4.3; RFC 9113 9.1.1; RFC 8336 2.4).
 use Rattle.std.specs.Prelude.{ℕ, Bool, true, false, not, ◌&&◌, ◌||◌, nat_eq, List, [], ◌∷◌, codes, if◌then◌else◌}
+use Rattle.std.specs.Bool.{beq}
 use Rattle.std.specs.Cmp.Lexicographic.{pointwise}
 use Rattle.altsvc_grammar.specs.Keys.{key_eq}
 use Rattle.altsvc_grammar.specs.declared.alt.Alt.{Alt}
+use Rattle.dns_names.specs.Names.{name_eq}
+use Rattle.alias_chain.specs.declared.endpoint.Endpoint.{Endpoint}
 use Rattle.coalescing.specs.Covers.{covers}
 use Rattle.origin_values.specs.Equality.{origin_eq}
 use Rattle.origin_values.specs.declared.scheme.Scheme.{Scheme}
 use Rattle.origin_values.specs.declared.scheme.Scheme.TheVariants.{Http, Https}
-use Rattle.origin_values.specs.declared.address.Addr.{Addr}
 use Rattle.origin_values.specs.declared.origin.Origin.{Origin}
 use Rattle.origin_values.specs.declared.protos.Protos.{Protos}
 use Rattle.origin_values.specs.declared.proto.Proto.{Proto}
@@ -19,6 +21,7 @@ use Rattle.route_events.specs.declared.reach.Reach.{Reach}
 use Rattle.route_events.specs.declared.fact.Fact.TheVariants as fact
 use Rattle.route_events.specs.declared.action.Action.TheVariants as action
 use Rattle.route_events.specs.Journal.{Happened, Cut, Taken, Journal}
+pub use Rattle.route_events.specs.Addresses.{is_address_of}
 pub use Rattle.route_events.specs.Connections.{is_https, is_tls, is_h2}
 use Rattle.route_events.specs.Connections.{is_open, outstanding, send_count}
 pub use Rattle.route_events.specs.OriginSets.{addr_host, initial_host, is_initial, is_gated, in_set}
@@ -26,22 +29,36 @@ use Rattle.route_events.specs.Misdirection.{is_misdirected}
 use Rattle.route_events.specs.Records.{ConnectionRecord}
 use Rattle.route_events.specs.Alternatives.{alternatives_of, is_listed, live}
 
--- two routes are one: the direct one, or by alternatives of one key
+-- two sets of protocols are one: both have the same
+abbrev pub protos_eq : Protos → Protos → Bool
+protos_eq a b = beq a.h2 b.h2 && (beq a.h3 b.h3 && beq a.http11 b.http11)
+
+-- two endpoints are one: the name, the port and the protocols are
+abbrev pub endpoint_eq : Endpoint → Endpoint → Bool
+endpoint_eq a b = name_eq a.target b.target && (nat_eq a.port b.port && protos_eq a.protos b.protos)
+
+-- two routes are one: the direct one, by alternatives of one key, or to endpoints that are one
 abbrev pub route_eq : Route → Route → Bool
 route_eq route.Direct route.Direct = true
-route_eq route.Direct (route.Alt b) = false
-route_eq (route.Alt a) route.Direct = false
 route_eq (route.Alt a) (route.Alt b) = key_eq a b
+route_eq (route.Rec a) (route.Rec b) = endpoint_eq a b
+route_eq route.Direct (route.Alt b) = false
+route_eq route.Direct (route.Rec b) = false
+route_eq (route.Alt a) route.Direct = false
+route_eq (route.Alt a) (route.Rec b) = false
+route_eq (route.Rec a) route.Direct = false
+route_eq (route.Rec a) (route.Alt b) = false
 
 -- the protocol of an ALPN identifier (RFC 7301 6), none where it isn't a supported one
 abbrev pub named : List ℕ → Protos
 named id = record { h2 = pointwise nat_eq id (codes "h2"); h3 = pointwise nat_eq id (codes "h3"); http11 = pointwise nat_eq id (codes "http/1.1") }
 
--- the protocols of a route: of an alternative its own
+-- the protocols of a route: of an alternative its own, of an endpoint the endpoint's (RFC 9460 7.1.2)
 abbrev pub protocols : Scheme → Route → Protos
 protocols Http route.Direct = record { h2 = false; h3 = false; http11 = true }
 protocols Https route.Direct = record { h2 = true; h3 = false; http11 = true }
 protocols scheme (route.Alt key) = named key.proto
+protocols scheme (route.Rec endpoint) = endpoint.protos
 
 abbrev pub is_among : Protos → Proto → Bool
 is_among protos H2 = protos.h2
@@ -54,10 +71,11 @@ is_among protos Other = false
 abbrev pub is_success : Connection → Bool
 is_success c = is_among (protocols c.origin.scheme c.route) c.proto && (not (is_tls c) || covers c.names c.origin.host)
 
--- some alternatives give a route: the direct one needs none, one by an alternative has to be listed
+-- some alternatives give a route: one by an alternative has to be listed, the others need none
 abbrev pub gives : List Alt → Route → Bool
 gives alts route.Direct = true
 gives alts (route.Alt key) = is_listed alts key
+gives alts (route.Rec endpoint) = true
 
 -- the basis of a connection, as one question of its record: it was opened for the origin, and what it rests on stands
 abbrev pub rests_on : ConnectionRecord → Origin → Bool
@@ -115,10 +133,6 @@ record_of journal c = record {
 -- a connection has a basis for the origin that it was opened for
 abbrev pub has_basis : Journal → Connection → Origin → ℕ → Bool
 has_basis journal c o now = rests_on (record_of journal c) o
-
--- whether an address is one of the origin's at a moment. No DNS answer is read yet, and nothing coalesces.
-abbrev pub is_address_of : Journal → Origin → ℕ → Addr → Bool
-is_address_of journal o now addr = false
 
 abbrev pub reach_of : Journal → Connection → Origin → ℕ → Reach
 reach_of journal c o now = record { address = is_address_of journal o now c.addr }

@@ -1,12 +1,12 @@
 -- Failures of routes, which bar them for a while.
-use Rattle.std.specs.Prelude.{ℕ, ◌+◌, ◌-◌, ◌*◌, ◌^◌, min, Bool, false, ◌&&◌, nat_lt, [], ◌∷◌, if◌then◌else◌}
+use Rattle.std.specs.Prelude.{ℕ, ◌+◌, ◌-◌, ◌*◌, ◌^◌, min, Bool, true, false, not, ◌&&◌, nat_lt, [], ◌∷◌, if◌then◌else◌}
 use Rattle.std.specs.Option.{option_map_or}
 use Rattle.origin_values.specs.Equality.{origin_eq}
 use Rattle.origin_values.specs.declared.origin.Origin.{Origin}
 use Rattle.route_events.specs.declared.fact.Fact.{Fact}
 use Rattle.route_events.specs.declared.fact.Fact.TheVariants as fact
 use Rattle.route_events.specs.declared.route.Route.{Route}
-use Rattle.route_events.specs.declared.route.Route.TheVariants.{Direct, Alt}
+use Rattle.route_events.specs.declared.route.Route.TheVariants.{Direct, Alt, Rec}
 use Rattle.route_events.specs.declared.attempt.Attempt.{Attempt}
 use Rattle.route_events.specs.Journal.{Happened, Cut, Taken, Journal}
 use Rattle.route_events.specs.Attempts.{pending_attempt}
@@ -59,10 +59,14 @@ backoff count = min 172800 (300 * 2 ^ (count - 1))
 abbrev pub is_backing_off : Failures → ℕ → Bool
 is_backing_off f now = nat_lt 0 f.count && nat_lt (now - f.last) (backoff f.count)
 
+abbrev pub is_direct : Route → Bool
+is_direct Direct = true
+is_direct (Alt key) = false
+is_direct (Rec endpoint) = false
+
 -- failures bar a route for a while, but never the direct one
 abbrev pub is_barred_by : Failures → Route → ℕ → Bool
-is_barred_by f Direct now = false
-is_barred_by f (Alt key) now = is_backing_off f now
+is_barred_by f r now = not (is_direct r) && is_backing_off f now
 
 abbrev pub is_broken : Journal → Origin → Route → ℕ → Bool
 is_broken journal o r now = is_barred_by (failures journal o r) r now

@@ -9,7 +9,7 @@ use Rattle.origin_values.specs.declared.proto.Proto.TheVariants.{H2, H3, Http11,
 use Rattle.route_events.specs.declared.action.Action.{Action}
 use Rattle.route_events.specs.declared.action.Action.TheVariants as action
 use Rattle.route_events.specs.declared.route.Route.{Route}
-use Rattle.route_events.specs.declared.route.Route.TheVariants.{Direct, Alt}
+use Rattle.route_events.specs.declared.route.Route.TheVariants.{Direct, Alt, Rec}
 use Rattle.route_events.specs.declared.connection.Connection.{Connection}
 use Rattle.route_events.specs.declared.request.Request.{Request}
 use Rattle.route_events.specs.Journal.{Journal}
@@ -38,6 +38,7 @@ or_else (Some x) other = Some x
 abbrev pub is_by_alternative : Route → Bool
 is_by_alternative Direct = false
 is_by_alternative (Alt key) = true
+is_by_alternative (Rec endpoint) = false
 
 -- the best of some connections: one with a basis by an alternative, else one with another basis, else any; among
 -- equals the one that was opened earliest
@@ -61,6 +62,7 @@ host_or (Some host) own = host
 abbrev pub alternative_used : Route → Origin → Option (Host × ℕ)
 alternative_used Direct o = None
 alternative_used (Alt key) o = Some (host_or key.host o.host, key.port)
+alternative_used (Rec endpoint) o = None
 
 -- what a send tells the server of the alternative that carries it (RFC 7838 5), where the connection has a basis for the
 -- origin by one

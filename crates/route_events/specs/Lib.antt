@@ -2,8 +2,10 @@ pub mod Journal
 pub mod Attempts
 pub mod Requests
 pub mod Connections
+pub mod Answers
 pub mod Frames
 pub mod OriginSets
+pub mod Addresses
 pub mod Misdirection
 pub mod Alternatives
 pub mod Records
@@ -15,9 +17,14 @@ pub mod Advertisements
 pub mod FrameAdvertisements
 pub mod Step
 pub mod Distinct
+pub mod Counts
 pub mod InWords
+pub mod AnswersInWords
 pub mod Alike
 pub mod Headline
 pub mod WorkedHistories
 pub mod WorkedAlternatives
 pub mod WorkedFrames
+pub mod WorkedAnswers
+pub mod WorkedCoalescing
+pub mod WorkedAlike

@@ -45,6 +45,7 @@ is_misdirected (Taken action ∷ older) c o = is_misdirected older c o
 abbrev pub is_route_by : AltKey → Route → Bool
 is_route_by key route.Direct = false
 is_route_by key (route.Alt own) = key_eq key own
+is_route_by key (route.Rec endpoint) = false
 
 abbrev pub was_opened_by : Origin → AltKey → Connection → Bool
 was_opened_by o key c = origin_eq c.origin o && is_route_by key c.route

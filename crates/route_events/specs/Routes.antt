@@ -1,18 +1,25 @@
 -- The routes to an origin, and which of them a request may take (RFC 7838 2, RFC 9460 3).
-use Rattle.std.specs.Prelude.{ℕ, Bool, false, not, ◌&&◌, ◌||◌, nat_eq, List, [], ◌∷◌, ◌++◌, if◌then◌else◌, map, filter}
+use Rattle.std.specs.Prelude.{ℕ, Bool, true, false, not, ◌&&◌, ◌||◌, nat_eq, List, [], ◌∷◌, ◌++◌, if◌then◌else◌, map, filter}
 use Rattle.std.specs.Option.{option_map_or}
 use Rattle.std.specs.List.{list_any}
+use Rattle.alias_chain.specs.Following.{endpoints_by}
 use Rattle.origin_values.specs.declared.origin.Origin.{Origin}
+use Rattle.origin_values.specs.declared.protos.Protos.{Protos}
 use Rattle.altsvc_grammar.specs.declared.alt.Alt.{Alt}
 use Rattle.route_events.specs.declared.route.Route.{Route}
 use Rattle.route_events.specs.declared.route.Route.TheVariants as route
 use Rattle.route_events.specs.declared.request.Request.{Request}
 use Rattle.route_events.specs.Journal.{Entry, Journal, of_fact}
 use Rattle.route_events.specs.Alternatives.{live}
+use Rattle.route_events.specs.Answers.{records, answer_at}
 use Rattle.route_events.specs.Attempts.{ended_in, pending}
 use Rattle.route_events.specs.Authority.{named}
 use Rattle.route_events.specs.Backoff.{is_on, is_attempt_on, is_broken}
 use Rattle.route_events.specs.Requests.{request_in}
+
+-- the protocols that are supported
+abbrev pub supported : Protos
+supported = record { h2 = true; h3 = true; http11 = true }
 
 -- an alternative has a supported protocol
 abbrev pub is_supported : Alt → Bool
@@ -22,11 +29,11 @@ is_supported a = (named a.key.proto).h2 || ((named a.key.proto).h3 || (named a.k
 abbrev pub by_alternatives : List Alt → List Route
 by_alternatives alts = map (λ (a : Alt). route.Alt a.key) (filter is_supported alts)
 
--- the routes of the endpoints of the origin's records (RFC 9460 3). No DNS answer is read yet.
+-- the routes to the endpoints of the origin's HTTPS records (RFC 9460 3), by the answers in force
 abbrev pub endpoints : Journal → Origin → ℕ → List Route
-endpoints journal o now = []
+endpoints journal o now = map route.Rec (endpoints_by (answer_at records journal now) supported o)
 
--- the routes of an origin, in order
+-- the routes of an origin, in order: by live alternatives, to endpoints, and the direct one
 abbrev pub routes : Journal → Origin → ℕ → List Route
 routes journal o now = by_alternatives (live journal o now) ++ endpoints journal o now ++ route.Direct ∷ []
 

@@ -13,9 +13,11 @@ use Rattle.route_events.specs.Attempts.{is_pending}
 use Rattle.route_events.specs.Requests.{newest_number, standing, is_out, waiting}
 use Rattle.route_events.specs.Connections.{open_connection, is_open_number, is_h2, outstanding}
 use Rattle.route_events.specs.Frames.{octets_on, deliveries}
+use Rattle.route_events.specs.Answers.{malformed_effects}
 use Rattle.route_events.specs.Advertisements.{answer_effects}
 use Rattle.route_events.specs.FrameAdvertisements.{frame_effects}
 use Rattle.route_events.specs.Dispatch.{carriers, dispatch}
+use Rattle.route_events.specs.Counts.{stats}
 
 -- why octets or a frame don't come on a connection: it isn't open, or it isn't one of HTTP/2
 abbrev pub frame_refusal : Option Connection → Option StepRefusal
@@ -31,9 +33,11 @@ fact_refusal journal (fact.Closed conn) = if is_open_number journal conn then No
 fact_refusal journal (fact.Response request status age altsvc) = if is_out (standing journal request) then None else Some NoSuchRequest
 fact_refusal journal (fact.Input conn bytes) = frame_refusal (open_connection journal conn)
 fact_refusal journal (fact.Delivered conn head payload) = frame_refusal (open_connection journal conn)
+fact_refusal journal (fact.Answer name ttl body) = None
 fact_refusal journal fact.Network = None
 fact_refusal journal fact.Tick = None
 fact_refusal journal (fact.Who origin) = None
+fact_refusal journal fact.Stats = None
 
 -- the first reason why a step isn't taken: too many steps, a moment that goes back, the fact
 abbrev pub refusal : Journal → ℕ → Fact → Option StepRefusal
@@ -48,11 +52,12 @@ with_actions journal [] = journal
 with_actions journal (a ∷ as') = with_actions (Taken a ∷ journal) as'
 
 -- the effect of a fact, in the journal below it: what was outstanding on a connection that ends is lost, and the Alt-Svc
--- of a response, or what a frame says, is taken or not
+-- of a response, or what a frame says, is taken or not; of an answer a malformed record is named
 abbrev pub effects : Journal → ℕ → Fact → List Action
 effects older now (fact.Closed conn) = map action.Lost (outstanding older conn)
 effects older now (fact.Response request status age altsvc) = answer_effects older now request status altsvc
 effects older now (fact.Delivered conn head payload) = frame_effects older now conn head payload
+effects older now (fact.Answer name ttl body) = malformed_effects name body
 effects older now _ = []
 
 -- each waiting request is dispatched once, in the order of arrival, each in the journal so far
@@ -95,9 +100,11 @@ abbrev pub follow : Journal → ℕ → List Entry → Journal
 follow journal now [] = journal
 follow journal now (part ∷ parts) = follow (settled (with_part journal now part) now) now parts
 
--- what a fact asks is answered behind all its parts: which connections are authoritative for an origin
+-- what a fact asks is answered behind all its parts: which connections are authoritative for an origin, or how much of each
+-- there is
 abbrev pub answer_to : Journal → ℕ → Fact → List Action
 answer_to journal now (fact.Who origin) = action.Who origin (map (λ (c : Connection). c.number) (carriers journal origin now)) ∷ []
+answer_to journal now fact.Stats = stats journal now ∷ []
 answer_to journal now _ = []
 
 abbrev pub with_answer : Journal → ℕ → Fact → Journal

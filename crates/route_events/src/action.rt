@@ -1,6 +1,7 @@
 use crate::Route;
 use alt_base::{Duplicate, ListOf, NoMemory};
 use altsvc_grammar::AltSvc;
+use dns_names::Name;
 use origin_values::{Host, Origin};
 use std::alloc::Global;
 
@@ -67,10 +68,28 @@ pub enum Action {
         taken: u32,
         skipped: u32,
     },
+    /// An answer of HTTPS records for a name holds a malformed one, and counts as empty (RFC 9460 2.2): the number of the
+    /// first, from 1, and why it is none, 1 to 6 in the order of `WireRefusal`, with the place.
+    Malformed {
+        name: Name,
+        item: u64,
+        reason: u8,
+        place: u32,
+    },
     /// These connections are authoritative for an origin, in the order of their opening.
     Who {
         origin: Origin,
         conns: Conns,
+    },
+    /// How much of each there is: live alternatives of all origins, of whatever protocol; names and kinds that have an answer
+    /// in force, be it empty; routes of origins that are broken; open connections; waiting requests. Where a number is above
+    /// the greatest of 64 bits, it is that one.
+    Stats {
+        alternatives: u64,
+        answers: u64,
+        broken: u64,
+        connections: u64,
+        waiting: u64,
     },
 }
 
@@ -146,9 +165,33 @@ impl Duplicate for Action {
                 taken: *taken,
                 skipped: *skipped,
             }),
+            Action::Malformed {
+                name,
+                item,
+                reason,
+                place,
+            } => Ok(Action::Malformed {
+                name: name.copy(alloc)?,
+                item: *item,
+                reason: *reason,
+                place: *place,
+            }),
             Action::Who { origin, conns } => Ok(Action::Who {
                 origin: origin.copy(alloc)?,
                 conns: conns.copy(alloc)?,
+            }),
+            Action::Stats {
+                alternatives,
+                answers,
+                broken,
+                connections,
+                waiting,
+            } => Ok(Action::Stats {
+                alternatives: *alternatives,
+                answers: *answers,
+                broken: *broken,
+                connections: *connections,
+                waiting: *waiting,
             }),
         }
     }

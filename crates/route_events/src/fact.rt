@@ -1,5 +1,7 @@
+use crate::AnswerBody;
 use alt_base::{Bytes, Duplicate, NoMemory};
 use coalescing::CertNames;
+use dns_names::Name;
 use h2_framing::Head;
 use origin_values::{Addr, Origin, Proto};
 use std::alloc::Global;
@@ -51,6 +53,13 @@ pub enum Fact {
         head: Head,
         payload: Bytes,
     },
+    /// A DNS answer came for a name: what it brings, and for how many seconds that is in force, its TTL (RFC 1035 3.2.1). It
+    /// replaces what an earlier one brought of the same kind. Each record has at most 65,536 octets.
+    Answer {
+        name: Name,
+        ttl: u32,
+        body: AnswerBody,
+    },
     /// The network changed: the client reaches the world by other ways than before.
     Network,
     /// Nothing but that time has come this far.
@@ -59,6 +68,8 @@ pub enum Fact {
     Who {
         origin: Origin,
     },
+    /// How much of each there is, is asked.
+    Stats,
 }
 
 impl Duplicate for Fact {
@@ -110,11 +121,17 @@ impl Duplicate for Fact {
                 head: *head,
                 payload: payload.copy(alloc)?,
             }),
+            Fact::Answer { name, ttl, body } => Ok(Fact::Answer {
+                name: name.copy(alloc)?,
+                ttl: *ttl,
+                body: body.copy(alloc)?,
+            }),
             Fact::Network => Ok(Fact::Network),
             Fact::Tick => Ok(Fact::Tick),
             Fact::Who { origin } => Ok(Fact::Who {
                 origin: origin.copy(alloc)?,
             }),
+            Fact::Stats => Ok(Fact::Stats),
         }
     }
 }

@@ -5,6 +5,9 @@ ghost use Rattle.origin_values.specs.Equality.{origin_eq};
 ghost use Rattle.origin_values.specs.declared.origin.Origin.{Origin as OriginValue};
 ghost use Rattle.altsvc_grammar.specs.declared.alt.Alt.{Alt as Alternative};
 ghost use Rattle.h2_framing.specs.Streams.{too_large_of};
+ghost use Rattle.svcb_wire.specs.declared.svcb.Svcb.{Svcb};
+ghost use Rattle.alias_chain.specs.declared.held.Held.{Held};
+ghost use Rattle.alias_chain.specs.Walk.{NameOf};
 ghost use Rattle.route_events.specs.declared.connection.Connection.{Connection as ConnectionValue};
 ghost use Rattle.route_events.specs.declared.fact.Fact.{Fact as FactValue};
 ghost use Rattle.route_events.specs.declared.reach.Reach.{Reach as ReachValue};
@@ -19,6 +22,10 @@ ghost use Rattle.route_events.specs.Records.{ConnectionRecord};
 ghost use Rattle.route_events.specs.Authority.{authorises, is_candidate};
 ghost use Rattle.route_events.specs.Backoff.{failures, no_failures};
 ghost use Rattle.route_events.specs.Distinct.{are_apart, advertised_origins, pair_eq, attempted_routes};
+ghost use Rattle.dns_names.specs.Names.{name_eq};
+ghost use Rattle.route_events.specs.Answers.{addresses4, addresses6, records, newest_answer};
+ghost use Rattle.route_events.specs.Counts.{answered_names};
+ghost use Rattle.route_events.specs.AnswersInWords.{IsNewestAnswer};
 ghost use Rattle.route_events.specs.InWords.{IsLive, AreFailures};
 ghost use Rattle.route_events.specs.Headline.{IsAllowed, SendsOnlyOn, RefusesOnlyWhere, WaitsOnlyFor};
 
@@ -88,6 +95,19 @@ pub fn live_in_words()
 /// network, and the last of them is the newest.
 pub fn failures_in_words()
     ensures { (journal : Journal) (o : OriginValue) (r : RouteValue) → AreFailures journal o r (failures journal o r).count (failures journal o r).last }
+{}
+
+/// Of every journal: the newest answer of a name and a kind is that of the newest fact that answers it, with nothing since that
+/// ends it (RFC 1035 3.2.1); and where none ever came for a name, there is none. So all there is to know of answers is at the
+/// different names that were answered.
+pub fn answers_in_words()
+    ensures v4 { (journal : Journal) (name : NameOf) (answer : Held (List (List ℕ))) → (newest_answer addresses4 journal name ≡ Some answer) ↔ IsNewestAnswer addresses4 journal name answer }
+    ensures v6 { (journal : Journal) (name : NameOf) (answer : Held (List (List ℕ))) → (newest_answer addresses6 journal name ≡ Some answer) ↔ IsNewestAnswer addresses6 journal name answer }
+    ensures https { (journal : Journal) (name : NameOf) (answer : Held (List Svcb)) → (newest_answer records journal name ≡ Some answer) ↔ IsNewestAnswer records journal name answer }
+    ensures no_v4 { (journal : Journal) (name : NameOf) → list_any (λ n. name_eq n name) (answered_names journal) ≡ false → newest_answer addresses4 journal name ≡ None }
+    ensures no_v6 { (journal : Journal) (name : NameOf) → list_any (λ n. name_eq n name) (answered_names journal) ≡ false → newest_answer addresses6 journal name ≡ None }
+    ensures no_https { (journal : Journal) (name : NameOf) → list_any (λ n. name_eq n name) (answered_names journal) ≡ false → newest_answer records journal name ≡ None }
+    ensures names { (journal : Journal) → are_apart name_eq (answered_names journal) ≡ true }
 {}
 
 /// After each step a request is outstanding on a connection exactly where the newest entry that moved it sent it there.

@@ -18,7 +18,7 @@ fn named(id: &[u8]) -> Protos
 }
 
 /// The protocols that a connection by a route may have: HTTP/1.1 by the direct one, and with TLS HTTP/2 too; by an
-/// alternative its own alone, or none where it isn't supported. It takes no memory.
+/// alternative its own alone, or none where it isn't supported; by an endpoint the endpoint's. It takes no memory.
 pub fn protocols_of(scheme: Scheme, route: &Route) -> Protos
     ensures { result ≡ protocols scheme route.now }
 {
@@ -34,6 +34,7 @@ pub fn protocols_of(scheme: Scheme, route: &Route) -> Protos
             http11: true,
         },
         (_, Route::Alt(key)) => named(key.proto.as_slice()),
+        (_, Route::Rec(endpoint)) => endpoint.protos,
     }
 }
 
