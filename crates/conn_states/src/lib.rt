@@ -15,7 +15,7 @@ mod view;
 
 pub use closed::{Closed, Requests};
 pub use conn::Conn;
-pub use made::Made;
+pub use made::{Made, is_at};
 pub use origin_set::Origins;
 pub use permit::Permit;
 pub use route_events::Reach;

@@ -80,8 +80,8 @@ fn is_initial_host(opened_for: &Host, addr: &Addr, host: &Host) -> bool
     }
 }
 
-// Whether a host is an address.
-fn is_at(addr: &Addr, host: &Host) -> bool
+/// Whether a host is an address. It takes no memory.
+pub fn is_at(addr: &Addr, host: &Host) -> bool
     ensures { result ≡ host_eq (addr_host addr.now) host.now }
 {
     match (addr, host) {

@@ -4,3 +4,4 @@ pub mod Otherwise
 pub mod Bounds
 pub mod Placing
 pub mod Closing
+pub mod Addressing

@@ -1,6 +1,9 @@
 -- What is done by some routes is what is done by those that a request may take.
 use Rattle.std.proofs.Common.{◌≡◌, ℕ, Bool, true, false, ◌&&◌, List, filter, find, refl, ap, sym, ◌∙◌}
 use Rattle.std.specs.List.{list_any}
+use Rattle.origin_values.specs.declared.address.Addr.{Addr}
+use Rattle.origin_values.specs.declared.origin.Origin.{Origin}
+use Rattle.answer_store.specs.declared.store.AnswerStore.{AnswerStore}
 use Rattle.network_cache.specs.declared.cache.Cache.{Cache}
 use Rattle.route_choice.specs.declared.broken.Broken.{Broken}
 use Rattle.route_choice.specs.Usable.{is_open_to}
@@ -9,7 +12,7 @@ use Rattle.route_events.specs.Dispatch.{first_of}
 use Rattle.request_dispatch.specs.declared.tables.Tables.{Tables}
 use Rattle.request_dispatch.specs.declared.waiting.Waiting.{Waiting}
 use Rattle.request_dispatch.specs.AttemptTable.{is_awaited}
-use Rattle.request_dispatch.specs.Looks.{Look, no_address, look_of}
+use Rattle.request_dispatch.specs.Looks.{Look, look_by}
 use Rattle.request_dispatch.specs.Choices.{routes_to, may_take, may_await, by_usable, by_routes, otherwise}
 use Rattle.route_events.proofs.Lists.{first_found}
 use Rattle.request_dispatch.proofs.Listing.{any_passed, any_same_in}
@@ -18,11 +21,12 @@ and_assoc : (a b c : Bool) → (a && (b && c)) ≡ ((a && b) && c)
 and_assoc true b c = refl
 and_assoc false b c = refl
 
-pub by_routes_is : (cache : Cache) (broken : Broken) (now : ℕ) (t : Tables) (w : Waiting) (rs : List Route) → rs ≡ routes_to (look_of cache broken now) w.request.origin → by_routes no_address broken now t w rs ≡ otherwise (look_of cache broken now) t w
-by_routes_is cache broken now t w rs are = ap (by_routes no_address broken now t w) are ∙ (λ i. by_usable no_address t w (awaited i) (first i))
+pub by_routes_is : (cache : Cache) (broken : Broken) (answers : AnswerStore) (now : ℕ) (at : Origin → Addr → Bool) (t : Tables) (w : Waiting) (rs : List Route) →
+    rs ≡ routes_to (look_by cache broken answers now at) w.request.origin → by_routes at broken now t w rs ≡ otherwise (look_by cache broken answers now at) t w
+by_routes_is cache broken answers now at t w rs are = ap (by_routes at broken now t w) are ∙ (λ i. by_usable at t w (awaited i) (first i))
   where
     look : Look
-    look = look_of cache broken now
+    look = look_by cache broken answers now at
 
     all : List Route
     all = routes_to look w.request.origin

@@ -1,5 +1,5 @@
 -- What is done for a waiting request, by what the tables hold.
-use Rattle.std.specs.Prelude.{ℕ, ◌+◌, Bool, true, false, not, ◌&&◌, ◌||◌, List, [], ◌∷◌, ◌++◌, Option, Some, None, if◌then◌else◌, filter, find}
+use Rattle.std.specs.Prelude.{ℕ, ◌+◌, Bool, true, false, not, ◌&&◌, ◌||◌, List, [], ◌∷◌, ◌++◌, Option, Some, None, if◌then◌else◌, map, filter, find}
 use Rattle.std.specs.List.{list_any}
 use Rattle.origin_values.specs.declared.address.Addr.{Addr}
 use Rattle.origin_values.specs.declared.origin.Origin.{Origin}
@@ -11,7 +11,7 @@ use Rattle.route_choice.specs.Usable.{is_listed, is_open_to}
 use Rattle.route_events.specs.declared.action.Action.{Action}
 use Rattle.route_events.specs.declared.action.Action.TheVariants as action
 use Rattle.route_events.specs.declared.route.Route.{Route}
-use Rattle.route_events.specs.declared.route.Route.TheVariants.{Direct}
+use Rattle.route_events.specs.declared.route.Route.TheVariants.{Direct, Rec}
 use Rattle.route_events.specs.Authority.{rests_on}
 use Rattle.route_events.specs.Backoff.{is_barred_by}
 use Rattle.route_events.specs.Routes.{by_alternatives}
@@ -27,7 +27,7 @@ use Rattle.request_dispatch.specs.Carriers.{best_connection}
 
 -- the routes that a request may take, in order
 abbrev pub routes_to : Look → Origin → List Route
-routes_to look o = by_alternatives (look.live o) ++ Direct ∷ []
+routes_to look o = by_alternatives (look.live o) ++ map Rec (look.endpoints o) ++ Direct ∷ []
 
 abbrev pub may_take : Look → Waiting → Route → Bool
 may_take look w r = not (look.is_broken w.request.origin r) && not (is_listed w.tried r)

@@ -2,6 +2,7 @@ pub mod OpenConnections
 pub mod AttemptTable
 pub mod RequestTable
 pub mod Looks
+pub mod Asked
 pub mod ConnectionTable
 pub mod Successes
 pub mod Carriers

@@ -3,9 +3,11 @@ ghost use Rattle.route_events.specs.Alternatives.{is_listed};
 ghost use Rattle.route_events.specs.Authority.{is_https, is_among, is_success, gives, rests_on};
 ghost use Rattle.request_dispatch.specs.Successes.{succeeds};
 ghost use Rattle.conn_states.specs.Said.{said, as_made};
-ghost use Rattle.request_dispatch.specs.Looks.{no_address, reach_at};
+ghost use Rattle.request_dispatch.specs.Looks.{reach_at};
+ghost use Rattle.request_dispatch.specs.Asked.{asked_by};
 
 use crate::open_connection::OpenConnection;
+use crate::origin_addresses::OriginAddresses;
 use altsvc_grammar::{Alt, AltKey, same_key};
 use coalescing::{CertNames, covers};
 use conn_states::Made;
@@ -55,14 +57,14 @@ fn is_listed(alts: &[Alt], key: &AltKey) -> bool
     alts.iter().any(|alt| same_key(&alt.key, key))
 }
 
-/// Whether some alternatives give a route: the direct one needs none, one by an alternative has to be listed. It takes no
-/// memory.
+/// Whether some alternatives give a route: one by an alternative has to be listed, the others need none. It takes no memory.
 pub fn gives(alts: &[Alt], route: &Route) -> bool
     ensures { result ≡ gives alts.now route.now }
 {
     match route {
         Route::Direct => true,
         Route::Alt(key) => is_listed(alts, key),
+        Route::Rec(_) => true,
     }
 }
 
@@ -73,10 +75,11 @@ pub(crate) fn rests_on(connection: &OpenConnection, origin: &Origin) -> bool
     same_origin(&connection.made().origin, origin) && connection.bound()
 }
 
-/// How a connection that was made so reaches an origin. No DNS answer is read yet, so no address is known as an origin's.
-/// It takes no memory.
-pub fn reach(_made: &Made, _origin: &Origin) -> Reach
-    ensures { result ≡ reach_at no_address (as_made 0 _made.now) _origin.now }
+/// How a connection that was made so reaches the origin that is asked for. It takes no memory.
+pub fn reach(addresses: &OriginAddresses<'_>, made: &Made) -> Reach
+    ensures { result ≡ reach_at (asked_by addresses.now).is_address (as_made 0 made.now) (asked_by addresses.now).origin }
 {
-    Reach { address: false }
+    Reach {
+        address: addresses.has(&made.addr),
+    }
 }

@@ -14,6 +14,7 @@ fn is_by_alternative(route: &Route) -> bool
     match route {
         Route::Direct => false,
         Route::Alt(_) => true,
+        Route::Rec(_) => false,
     }
 }
 

@@ -1,24 +1,30 @@
 ghost use Rattle.std.specs.Prelude.{◌≡◌, ◌≤◌, ◌<◌, ◌^◌, IfOk, Some, find, not};
 ghost use Rattle.std.specs.Option.{option_copied};
 ghost use Rattle.std.specs.List.{list_any};
+ghost use Rattle.answer_store.specs.Contents.{newest_moment as newest_answer};
 ghost use Rattle.network_cache.specs.Contents.{newest_moment};
 ghost use Rattle.route_choice.specs.Contents.{kept_failures, newest_moment as newest_failure};
 ghost use Rattle.route_choice.specs.Usable.{is_listed, is_open_to};
 ghost use Rattle.route_events.specs.Authority.{rests_on};
 ghost use Rattle.route_events.specs.Backoff.{is_barred_by};
+ghost use Rattle.route_events.specs.Routes.{by_alternatives, supported};
 ghost use Rattle.route_events.specs.Dispatch.{stream_after, host_or, alternative_used, alt_used};
 ghost use Rattle.conn_states.specs.Said.{said};
-ghost use Rattle.request_dispatch.specs.Looks.{no_address, look_of};
-ghost use Rattle.request_dispatch.specs.Choices.{is_in_use, unless_in_use, beside, may_await, without_route, by_routes, otherwise, choice};
+ghost use Rattle.request_dispatch.specs.Looks.{live_at, look_by};
+ghost use Rattle.request_dispatch.specs.Asked.{asked_by};
+ghost use Rattle.request_dispatch.specs.Choices.{is_in_use, unless_in_use, may_await, without_route, by_routes, otherwise, choice};
+ghost use Rattle.request_dispatch.specs.Carriers.{best_connection};
 
 use crate::authority::rests_on;
 use crate::open_connection::OpenConnection;
+use crate::origin_addresses::OriginAddresses;
 use crate::tables::Tables;
 use crate::waiting::Waiting;
+use alias_chain::endpoints;
 use alt_base::{Duplicate, ListOf, Moment, NoMemory};
-use altsvc_grammar::Alts;
+use answer_store::AnswerStore;
 use network_cache::Cache;
-use origin_values::{Host, Origin, Proto};
+use origin_values::{Host, Origin, Proto, Protos};
 use route_choice::{Broken, alternative_routes, first_usable, routes};
 use route_events::{Route, Routes, same_route};
 use std::alloc::Global;
@@ -78,6 +84,7 @@ fn alternative_used(
     match route {
         Route::Direct => Ok(None),
         Route::Alt(key) => Ok(Some((host_or(alloc, &key.host, &origin.host)?, key.port))),
+        Route::Rec(_) => Ok(None),
     }
 }
 
@@ -124,7 +131,7 @@ fn beside(
 ) -> Result<Option<Route>, NoMemory>
     requires alternatives { newest_moment cache.now ≤ now.0 }
     requires failures { newest_failure broken.now ≤ now.0 }
-    ensures { IfOk result (λ route. route ≡ beside (look_of cache.now broken.now now.0) tables.now origin.now) }
+    ensures { IfOk result (λ route. route ≡ unless_in_use tables.now origin.now (find (λ r. not (is_barred_by (kept_failures broken.now origin.now r) r now.0)) (by_alternatives (live_at cache.now now.0 origin.now)))) }
 {
     let live = cache.live(alloc, now, origin)?;
     let routes = alternative_routes(alloc, &live)?;
@@ -198,13 +205,24 @@ fn may_await_any(
 }
 
 // What is done where no usable route is left.
-fn without_route(tables: &Tables, origin: &Origin) -> Choice
-    ensures { result ≡ without_route no_address tables.now origin.now }
+fn without_route(tables: &Tables, addresses: &OriginAddresses<'_>) -> Choice
+    ensures { result ≡ without_route (asked_by addresses.now).is_address tables.now (asked_by addresses.now).origin }
 {
-    if tables.connections.has_carrier(origin) {
+    if tables.connections.has_carrier(addresses) {
         return Choice::Wait;
     }
     Choice::Refuse
+}
+
+// The protocols that are supported.
+fn supported() -> Protos
+    ensures { result ≡ supported }
+{
+    Protos {
+        h2: true,
+        h3: true,
+        http11: true,
+    }
 }
 
 // What is done for a request that no connection may carry now.
@@ -212,18 +230,24 @@ fn otherwise(
     alloc: Global,
     cache: &Cache,
     broken: &Broken,
+    answers: &AnswerStore,
     now: Moment,
+    addresses: &OriginAddresses<'_>,
     tables: &Tables,
     waiting: &Waiting,
 ) -> Result<Choice, NoMemory>
     requires alternatives { newest_moment cache.now ≤ now.0 }
     requires failures { newest_failure broken.now ≤ now.0 }
-    ensures { IfOk result (λ chosen. chosen ≡ otherwise (look_of cache.now broken.now now.0) tables.now waiting.now) }
+    requires answers { newest_answer answers.now ≤ now.0 }
+    requires asked { (asked_by addresses.now).origin ≡ waiting.now.request.origin }
+    ensures { IfOk result (λ chosen. chosen ≡ otherwise (look_by cache.now broken.now answers.now now.0 (asked_by addresses.now).is_address) tables.now waiting.now) }
 {
     let origin = &waiting.request.origin;
     let live = cache.live(alloc, now, origin)?;
-    let routes = routes(alloc, origin, &live)?;
-    by_routes(alloc, broken, now, tables, waiting, &routes)
+    let protos = supported();
+    let found = endpoints(alloc, answers, origin, &protos, now)?;
+    let routes = routes(alloc, origin, &live, &found)?;
+    by_routes(alloc, broken, now, addresses, tables, waiting, &routes)
 }
 
 // The same, where these are the routes of the request's origin.
@@ -231,18 +255,20 @@ fn by_routes(
     alloc: Global,
     broken: &Broken,
     now: Moment,
+    addresses: &OriginAddresses<'_>,
     tables: &Tables,
     waiting: &Waiting,
     routes: &Routes,
 ) -> Result<Choice, NoMemory>
-    requires { newest_failure broken.now ≤ now.0 }
-    ensures { IfOk result (λ chosen. chosen ≡ by_routes no_address broken.now now.0 tables.now waiting.now routes.now) }
+    requires failures { newest_failure broken.now ≤ now.0 }
+    requires asked { (asked_by addresses.now).origin ≡ waiting.now.request.origin }
+    ensures { IfOk result (λ chosen. chosen ≡ by_routes (asked_by addresses.now).is_address broken.now now.0 tables.now waiting.now routes.now) }
 {
     if may_await_any(broken, now, tables, waiting, routes.as_slice()) {
         return Ok(Choice::Wait);
     }
     match first_route(routes, waiting, broken, now) {
-        None => Ok(without_route(tables, &waiting.request.origin)),
+        None => Ok(without_route(tables, addresses)),
         Some(route) => Ok(Choice::Open(route.copy(alloc)?)),
     }
 }
@@ -263,25 +289,44 @@ fn first_route<'a>(
     }
 }
 
+// The best connection for a waiting request.
+fn best_for<'a>(
+    alloc: Global,
+    addresses: &OriginAddresses<'_>,
+    tables: &'a Tables,
+    waiting: &Waiting,
+) -> Result<Option<&'a OpenConnection>, NoMemory>
+    requires { (asked_by addresses.now).origin ≡ waiting.now.request.origin }
+    ensures { IfOk result (λ found. option_copied found ≡ best_connection (asked_by addresses.now).is_address waiting.now.request.origin tables.now.connections) }
+{
+    tables.connections.best(alloc, addresses)
+}
+
 /// What is done for a waiting request at a moment, by what the tables hold: it is sent on the best connection that may
 /// carry it; else it waits for a pending attempt by a route that it may take, or one starts by the first such route; else
-/// it waits for a busy connection, or is refused. The two moments may not be below those that the tables were given.
-/// NoMemory comes only where memory isn't found.
+/// it waits for a busy connection, or is refused. The addresses are those of the request's origin. The moment may not be
+/// below those that the tables were given. NoMemory comes only where memory isn't found.
 pub fn choose(
     alloc: Global,
     cache: &Cache,
     broken: &Broken,
+    answers: &AnswerStore,
     now: Moment,
+    addresses: &OriginAddresses<'_>,
     tables: &Tables,
     waiting: &Waiting,
 ) -> Result<Choice, NoMemory>
     requires alternatives { newest_moment cache.now ≤ now.0 }
     requires failures { newest_failure broken.now ≤ now.0 }
-    ensures { IfOk result (λ chosen. chosen ≡ choice (look_of cache.now broken.now now.0) tables.now waiting.now) }
+    requires answers { newest_answer answers.now ≤ now.0 }
+    requires asked { (asked_by addresses.now).origin ≡ waiting.now.request.origin }
+    ensures { IfOk result (λ chosen. chosen ≡ choice (look_by cache.now broken.now answers.now now.0 (asked_by addresses.now).is_address) tables.now waiting.now) }
 {
     let origin = &waiting.request.origin;
-    match tables.connections.best(alloc, origin)? {
-        None => otherwise(alloc, cache, broken, now, tables, waiting),
+    match best_for(alloc, addresses, tables, waiting)? {
+        None => otherwise(
+            alloc, cache, broken, answers, now, addresses, tables, waiting,
+        ),
         Some(connection) => Ok(Choice::Send {
             conn: connection.number(),
             stream: stream_after(connection.made().proto, connection.sends()),

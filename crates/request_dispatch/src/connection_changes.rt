@@ -1,45 +1,46 @@
 //! What happens to each of some open connections.
 ghost use Rattle.std.specs.Prelude.{◌≡◌, ◌<◌, map, IfOk, OnOk};
 ghost use Rattle.request_dispatch.specs.ConnectionTable.{sent_on, listed_on, misdirected_by, is_left_out, rebound, most_sends};
-ghost use Rattle.request_dispatch.specs.Looks.{no_address};
 ghost use Rattle.conn_states.specs.Changes.{with_answered};
+ghost use Rattle.request_dispatch.specs.Asked.{asked_by};
 
 use crate::authority::gives;
 use crate::open_connection::OpenConnection;
+use crate::origin_addresses::OriginAddresses;
 use alt_base::NoMemory;
 use altsvc_grammar::Alt;
 use conn_states::Origins;
 use origin_values::{Origin, same_origin};
 use std::alloc::Global;
 
-// Sends a request for an origin, where the connection is the one of this number and may carry it.
+// Sends a request for the origin that is asked for, where the connection is the one of this number and may carry it.
 fn send_one(
     connection: &mut OpenConnection,
     conn: u64,
-    origin: &Origin,
+    addresses: &OriginAddresses<'_>,
     request: u32,
 ) -> Result<(), NoMemory>
     requires { connection.old.sends < 16777215 }
-    ensures { OnOk result (connection.new ≡ sent_on no_address origin.now conn request connection.old) }
+    ensures { OnOk result (connection.new ≡ sent_on (asked_by addresses.now).is_address (asked_by addresses.now).origin conn request connection.old) }
 {
     if connection.number() == conn {
-        connection.send(origin, request)?;
+        connection.send(addresses, request)?;
     }
     Ok(())
 }
 
-/// Sends a request for an origin on the connection of a number, where that may carry it.
+/// Sends a request for the origin that is asked for on the connection of a number, where that may carry it.
 pub(crate) fn send_on(
     connections: &mut [OpenConnection],
     conn: u64,
-    origin: &Origin,
+    addresses: &OriginAddresses<'_>,
     request: u32,
 ) -> Result<(), NoMemory>
     requires { most_sends connections.old < 16777215 }
-    ensures { OnOk result (connections.new ≡ map (sent_on no_address origin.now conn request) connections.old) }
+    ensures { OnOk result (connections.new ≡ map (sent_on (asked_by addresses.now).is_address (asked_by addresses.now).origin conn request) connections.old) }
 {
     for connection in connections.iter_mut() {
-        send_one(connection, conn, origin, request)?;
+        send_one(connection, conn, addresses, request)?;
     }
     Ok(())
 }

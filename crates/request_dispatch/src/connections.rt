@@ -1,16 +1,17 @@
-ghost use Rattle.std.specs.Prelude.{◌≡◌, ◌<◌, ◌++◌, ◌∷◌, [], map, nat_eq, OnOk, IfOk};
+ghost use Rattle.std.specs.Prelude.{◌≡◌, ◌<◌, ◌++◌, ◌∷◌, [], length, map, nat_eq, OnOk, IfOk};
 ghost use Rattle.std.specs.List.{list_any, position_from};
 ghost use Rattle.std.specs.Option.{option_copied, option_and_then};
 ghost use Rattle.request_dispatch.specs.ConnectionTable.{connection_among, other_connections, out_on, begun, is_carrier, is_carrier_of, carrier_numbers, sent_on, listed_on, misdirected_by, carrying, rebound, is_opened_by, most_sends};
 ghost use Rattle.conn_states.specs.Changes.{with_answered};
-ghost use Rattle.request_dispatch.specs.Looks.{no_address};
 ghost use Rattle.request_dispatch.specs.Carriers.{candidates, best_connection, is_answered_by_authority};
+ghost use Rattle.request_dispatch.specs.Asked.{asked_by};
 
 use crate::carriers::{
     candidates, carrier_numbers, is_answered_by_authority, is_any_carrier, is_carrier,
 };
 use crate::connection_changes::{forget_request, list_on, misdirect_all, rebind_all, send_on};
 use crate::open_connection::OpenConnection;
+use crate::origin_addresses::OriginAddresses;
 use alt_base::{ListOf, NoMemory};
 use altsvc_grammar::Alt;
 use conn_states::{Made, Origins, Requests as Lost};
@@ -80,6 +81,13 @@ impl Connections {
         connection_among(self.open.as_slice(), number)
     }
 
+    /// How many there are. It takes no memory.
+    pub fn len(&self) -> usize
+        ensures { result ≡ length self.now }
+    {
+        self.open.len()
+    }
+
     /// The connection of a number isn't open any more. Answers the requests that are lost by its end, in the order of their
     /// sends. It takes no memory.
     pub fn close(&mut self, alloc: Global, number: u64) -> Lost
@@ -91,13 +99,19 @@ impl Connections {
         lost
     }
 
-    /// A request of an origin is sent on the connection of a number, where that may carry it: where it is authoritative for
-    /// the origin and not busy, and the request isn't outstanding on it. NoMemory comes only where memory isn't found.
-    pub fn send(&mut self, conn: u64, origin: &Origin, request: u32) -> Result<(), NoMemory>
+    /// A request of the origin that is asked for is sent on the connection of a number, where that may carry it: where it is
+    /// authoritative for the origin and not busy, and the request isn't outstanding on it. NoMemory comes only where memory
+    /// isn't found.
+    pub fn send(
+        &mut self,
+        conn: u64,
+        addresses: &OriginAddresses<'_>,
+        request: u32,
+    ) -> Result<(), NoMemory>
         requires { most_sends self.old < 16777215 }
-        ensures { OnOk result (self.new ≡ map (sent_on no_address origin.now conn request) self.old) }
+        ensures { OnOk result (self.new ≡ map (sent_on (asked_by addresses.now).is_address (asked_by addresses.now).origin conn request) self.old) }
     {
-        send_on(&mut self.open, conn, origin, request)
+        send_on(&mut self.open, conn, addresses, request)
     }
 
     /// A request isn't outstanding any more, on any connection. It takes no memory.
@@ -125,19 +139,24 @@ impl Connections {
         Ok(())
     }
 
-    /// Whether the connection of a number is open and authoritative for the origin, busy or not. It takes no memory.
-    pub fn is_carrier(&self, conn: u64, origin: &Origin) -> bool
-        ensures { result ≡ is_carrier_of no_address origin.now conn self.now }
+    /// Whether the connection of a number is open and authoritative for the origin that is asked for, busy or not. It takes
+    /// no memory.
+    pub fn is_carrier(&self, conn: u64, addresses: &OriginAddresses<'_>) -> bool
+        ensures { result ≡ is_carrier_of (asked_by addresses.now).is_address (asked_by addresses.now).origin conn self.now }
     {
-        is_carrier_of(self.open.as_slice(), conn, origin)
+        is_carrier_of(self.open.as_slice(), conn, addresses)
     }
 
-    /// The numbers of the connections that are authoritative for the origin, busy or not, in the order of their opening.
-    /// NoMemory comes only where memory isn't found.
-    pub fn carriers(&self, alloc: Global, origin: &Origin) -> Result<Conns, NoMemory>
-        ensures { IfOk result (λ numbers. numbers ≡ carrier_numbers no_address origin.now self.now) }
+    /// The numbers of the connections that are authoritative for the origin that is asked for, busy or not, in the order of
+    /// their opening. NoMemory comes only where memory isn't found.
+    pub fn carriers(
+        &self,
+        alloc: Global,
+        addresses: &OriginAddresses<'_>,
+    ) -> Result<Conns, NoMemory>
+        ensures { IfOk result (λ numbers. numbers ≡ carrier_numbers (asked_by addresses.now).is_address (asked_by addresses.now).origin self.now) }
     {
-        carrier_numbers(alloc, self.open.as_slice(), origin)
+        carrier_numbers(alloc, self.open.as_slice(), addresses)
     }
 
     /// The connection on which a request is outstanding; None exactly where there is none. It takes no memory.
@@ -155,11 +174,11 @@ impl Connections {
         rebind_all(&mut self.open, origin, alts);
     }
 
-    /// Whether a connection is authoritative for the origin, busy or not. It takes no memory.
-    pub fn has_carrier(&self, origin: &Origin) -> bool
-        ensures { result ≡ list_any (is_carrier no_address origin.now) self.now }
+    /// Whether a connection is authoritative for the origin that is asked for, busy or not. It takes no memory.
+    pub fn has_carrier(&self, addresses: &OriginAddresses<'_>) -> bool
+        ensures { result ≡ list_any (is_carrier (asked_by addresses.now).is_address (asked_by addresses.now).origin) self.now }
     {
-        is_any_carrier(self.open.as_slice(), origin)
+        is_any_carrier(self.open.as_slice(), addresses)
     }
 
     /// Whether a connection was opened for the origin by the route. It takes no memory.
@@ -169,29 +188,37 @@ impl Connections {
         is_any_opened_by(self.open.as_slice(), origin, route)
     }
 
-    /// Whether a connection on which the request of this number is outstanding is authoritative for the origin. It takes no
-    /// memory.
-    pub fn is_answered_by_authority(&self, request: u32, origin: &Origin) -> bool
-        ensures { result ≡ is_answered_by_authority no_address request origin.now self.now }
+    /// Whether a connection on which the request of this number is outstanding is authoritative for the origin that is asked
+    /// for. It takes no memory.
+    pub fn is_answered_by_authority(&self, request: u32, addresses: &OriginAddresses<'_>) -> bool
+        ensures { result ≡ is_answered_by_authority (asked_by addresses.now).is_address request (asked_by addresses.now).origin self.now }
     {
-        is_answered_by_authority(self.open.as_slice(), request, origin)
+        is_answered_by_authority(self.open.as_slice(), request, addresses)
     }
 
-    /// The connections that are authoritative for the origin and not busy, each with its basis, in the order of their
-    /// opening. NoMemory comes only where memory isn't found.
-    pub fn candidates(&self, alloc: Global, origin: &Origin) -> Result<Candidates, NoMemory>
-        ensures { IfOk result (λ free. free ≡ candidates no_address origin.now self.now) }
+    /// The connections that are authoritative for the origin that is asked for and not busy, each with its basis, in the order
+    /// of their opening. NoMemory comes only where memory isn't found.
+    pub fn candidates(
+        &self,
+        alloc: Global,
+        addresses: &OriginAddresses<'_>,
+    ) -> Result<Candidates, NoMemory>
+        ensures { IfOk result (λ free. free ≡ candidates (asked_by addresses.now).is_address (asked_by addresses.now).origin self.now) }
     {
-        candidates(alloc, self.open.as_slice(), origin)
+        candidates(alloc, self.open.as_slice(), addresses)
     }
 
     /// The best of them: one that was opened by an alternative and rests on it, else one with another basis, else any;
     /// among equals the one that was opened earliest; None exactly where there is none. NoMemory comes only where memory
     /// isn't found.
-    pub fn best(&self, alloc: Global, origin: &Origin) -> Result<Option<&OpenConnection>, NoMemory>
-        ensures { IfOk result (λ found. option_copied found ≡ best_connection no_address origin.now self.now) }
+    pub fn best(
+        &self,
+        alloc: Global,
+        addresses: &OriginAddresses<'_>,
+    ) -> Result<Option<&OpenConnection>, NoMemory>
+        ensures { IfOk result (λ found. option_copied found ≡ best_connection (asked_by addresses.now).is_address (asked_by addresses.now).origin self.now) }
     {
-        let free = self.candidates(alloc, origin)?;
+        let free = self.candidates(alloc, addresses)?;
         Ok(maybe_of_number(self.open.as_slice(), best(&free)))
     }
 }
@@ -222,13 +249,13 @@ fn maybe_of_number(connections: &[OpenConnection], number: Option<u64>) -> Optio
     }
 }
 
-// Whether the one of a number is authoritative for the origin.
-fn is_carrier_of(connections: &[OpenConnection], conn: u64, origin: &Origin) -> bool
-    ensures { result ≡ is_carrier_of no_address origin.now conn connections.now }
+// Whether the one of a number is authoritative for the origin that is asked for.
+fn is_carrier_of(connections: &[OpenConnection], conn: u64, addresses: &OriginAddresses<'_>) -> bool
+    ensures { result ≡ is_carrier_of (asked_by addresses.now).is_address (asked_by addresses.now).origin conn connections.now }
 {
     match connection_among(connections, conn) {
         None => false,
-        Some(connection) => is_carrier(connection, origin),
+        Some(connection) => is_carrier(connection, addresses),
     }
 }
 

@@ -5,12 +5,13 @@ ghost use Rattle.route_events.specs.Authority.{authorises};
 ghost use Rattle.route_events.specs.Connections.{is_one_of};
 ghost use Rattle.route_events.specs.Records.{is_occupied};
 ghost use Rattle.request_dispatch.specs.ConnectionTable.{sent_for};
-ghost use Rattle.request_dispatch.specs.Looks.{no_address};
 ghost use Rattle.request_dispatch.specs.OpenConnections.{record_lent};
+ghost use Rattle.request_dispatch.specs.Asked.{asked_by};
 
 use crate::authority::reach;
 use crate::connection_state::ConnectionState;
 use crate::lent::Lent;
+use crate::origin_addresses::OriginAddresses;
 use alt_base::NoMemory;
 use conn_states::{Conn, Made, Origins, Requests as Lost, send_where_authoritative};
 use origin_values::Origin;
@@ -124,15 +125,20 @@ impl OpenConnection {
         }
     }
 
-    // Sends a request for an origin, where it may carry it now.
-    pub(crate) fn send(&mut self, origin: &Origin, request: u32) -> Result<(), NoMemory>
+    // Sends a request for the origin that is asked for, where it may carry it now.
+    pub(crate) fn send(
+        &mut self,
+        addresses: &OriginAddresses<'_>,
+        request: u32,
+    ) -> Result<(), NoMemory>
         requires { self.old.sends < 16777215 }
-        ensures { OnOk result (self.new ≡ sent_for no_address origin.now request self.old) }
+        ensures { OnOk result (self.new ≡ sent_for (asked_by addresses.now).is_address (asked_by addresses.now).origin request self.old) }
     {
         if self.busy() || self.carries(request) {
             return Ok(());
         }
-        let reach = reach(self.made(), origin);
+        let origin = addresses.origin();
+        let reach = reach(addresses, self.made());
         let _sent = match &mut self.state {
             ConnectionState::Plain(conn) => send_where_authoritative(conn, origin, reach, request)?,
             ConnectionState::Gated(conn) => send_where_authoritative(conn, origin, reach, request)?,

@@ -1,4 +1,4 @@
-ghost use Rattle.std.specs.Prelude.{◌≡◌, [], false, OnOk, map, find, nat_eq, nat_lt};
+ghost use Rattle.std.specs.Prelude.{◌≡◌, [], false, OnOk, length, map, find, nat_eq, nat_lt};
 ghost use Rattle.std.specs.Option.{option_copied, option_map_or};
 ghost use Rattle.std.specs.List.{position_from};
 ghost use Rattle.route_events.specs.Connections.{is_one_of};
@@ -39,6 +39,13 @@ impl Requests {
             waiting: Vec::new(alloc),
             outstanding: Vec::new(alloc),
         }
+    }
+
+    /// How many wait. It takes no memory.
+    pub fn waiting_len(&self) -> usize
+        ensures { result ≡ length self.now.waiting }
+    {
+        self.waiting.len()
     }
 
     /// The outstanding request of a number; None exactly where none has it. It takes no memory.

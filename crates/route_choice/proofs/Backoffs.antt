@@ -4,7 +4,7 @@ use Rattle.std.specs.Prelude.{min}
 use Rattle.std.proofs.Math.Pow.{pow_mono}
 use Rattle.alt_base.proofs.Numbers.{true_lt, false_lt}
 use Rattle.route_events.specs.declared.route.Route.{Route}
-use Rattle.route_events.specs.declared.route.Route.TheVariants.{Direct, Alt}
+use Rattle.route_events.specs.declared.route.Route.TheVariants.{Direct, Alt, Rec}
 use Rattle.route_events.specs.Backoff.{Failures, backoff, is_backing_off, is_barred_by}
 use Rattle.route_choice.specs.Capped.{capped}
 
@@ -45,3 +45,4 @@ capped_backing_off f now = joined (nat_lt 0 (min 11 f.count)) (nat_lt 0 f.count)
 pub capped_barred : (f : Failures) (r : Route) (now : ℕ) → is_barred_by (capped f) r now ≡ is_barred_by f r now
 capped_barred f Direct now = refl
 capped_barred f (Alt key) now = capped_backing_off f now
+capped_barred f (Rec endpoint) now = capped_backing_off f now

@@ -6,3 +6,4 @@ pub mod Distinct
 pub mod Totals
 pub mod Places
 pub mod Bests
+pub mod EndpointRoutes

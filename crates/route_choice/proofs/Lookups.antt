@@ -6,7 +6,7 @@ use Rattle.std.specs.Option.{option_map_or}
 use Rattle.origin_values.specs.declared.origin.Origin.{Origin}
 use Rattle.origin_values.specs.Equality.{origin_eq}
 use Rattle.route_events.specs.declared.route.Route.{Route}
-use Rattle.route_events.specs.declared.route.Route.TheVariants.{Direct, Alt}
+use Rattle.route_events.specs.declared.route.Route.TheVariants.{Direct, Alt, Rec}
 use Rattle.route_events.specs.Authority.{route_eq}
 use Rattle.route_events.specs.Backoff.{Failures, no_failures, failed_at, is_barred_by}
 use Rattle.route_choice.specs.declared.failed_route.FailedRoute.{FailedRoute}
@@ -37,6 +37,7 @@ nothing_in o r (f ∷ fs) h = looked_up o r f fs ∙ by_test (is_of o r f) h (no
 pub not_barred : (r : Route) (now : ℕ) → is_barred_by no_failures r now ≡ false
 not_barred Direct now = refl
 not_barred (Alt key) now = refl
+not_barred (Rec endpoint) now = refl
 
 -- a failure of a route that has failed
 

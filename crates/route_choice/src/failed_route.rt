@@ -47,6 +47,7 @@ pub(crate) fn bars(failed: &FailedRoute, route: &Route, now: Moment) -> bool
     match route {
         Route::Direct => false,
         Route::Alt(_) => is_backing_off(failed, now),
+        Route::Rec(_) => is_backing_off(failed, now),
     }
 }
 

@@ -1,7 +1,9 @@
 use crate::{BasisKind, Broken, Candidate, Candidates, best, first_usable, routes};
+use alias_chain::{Endpoint, Endpoints};
 use alt_base::{Bytes, ListOf, Moment, NoMemory};
 use altsvc_grammar::{Alt, AltKey, Alts};
-use origin_values::{Host, Origin, Scheme};
+use dns_names::Name;
+use origin_values::{Host, Origin, Protos, Scheme};
 use route_events::{Route, Routes};
 use std::alloc::Global;
 use std::test::Fail;
@@ -42,6 +44,23 @@ fn alts(alloc: Global, rows: &[(&str, u16)]) -> Result<Alts, NoMemory> {
     Ok(alts)
 }
 
+// Endpoints at these ports of one name.
+fn endpoints(alloc: Global, ports: &[u16]) -> Result<Endpoints, Fail> {
+    let mut all = ListOf::new(alloc);
+    for port in ports {
+        all.push(Endpoint {
+            target: Name::from_text(alloc, b"b.test")?,
+            port: *port,
+            protos: Protos {
+                h2: true,
+                h3: false,
+                http11: true,
+            },
+        })?;
+    }
+    Ok(all)
+}
+
 // The ports of some routes, 0 for the direct one.
 fn ports(alloc: Global, routes: &Routes) -> Result<Vec<u16>, NoMemory> {
     let mut ports = Vec::new(alloc);
@@ -49,6 +68,7 @@ fn ports(alloc: Global, routes: &Routes) -> Result<Vec<u16>, NoMemory> {
         match route {
             Route::Direct => ports.push(0)?,
             Route::Alt(key) => ports.push(key.port)?,
+            Route::Rec(endpoint) => ports.push(endpoint.port)?,
         }
     }
     Ok(ports)
@@ -124,16 +144,18 @@ fn ends_and_others(rt: HostRuntime) -> Result<(), Fail> {
 fn routes_in_order(rt: HostRuntime) -> Result<(), Fail> {
     let alloc = rt.alloc();
     let live = alts(alloc, &[("h2", 1), ("h2c", 2), ("http/1.1", 3), ("h3", 4)])?;
-    let found = routes(alloc, &origin(alloc, "a.test")?, &live)?;
-    let ports = ports(alloc, &found)?;
-    assert_eq!(rt; ports.as_slice(), [1u16, 3, 4, 0].as_slice());
+    let found = endpoints(alloc, &[6, 5])?;
+    let all = routes(alloc, &origin(alloc, "a.test")?, &live, &found)?;
+    let ports = ports(alloc, &all)?;
+    assert_eq!(rt; ports.as_slice(), [1u16, 3, 4, 6, 5, 0].as_slice());
     Ok(())
 }
 
 // The place of the first usable route of three, where those of some ports have failed and those of others are barred.
 fn usable(alloc: Global, failed: &[u16], barred: &[u16]) -> Result<Option<usize>, NoMemory> {
     let site = origin(alloc, "a.test")?;
-    let all = routes(alloc, &site, &alts(alloc, &[("h2", 1), ("h2", 2)])?)?;
+    let live = alts(alloc, &[("h2", 1), ("h2", 2)])?;
+    let all = routes(alloc, &site, &live, &ListOf::new(alloc))?;
     let mut broken = Broken::new(alloc);
     for port in failed {
         fail(&mut broken, 1, 0, &site, &route(alloc, *port)?)?;

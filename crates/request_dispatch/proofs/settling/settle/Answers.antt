@@ -16,7 +16,7 @@ settle_one-requires-clause-sends c =
 
 pub loop-request-preserved : goal.loop-request-preserved
 loop-request-preserved c =
-    let look : Look = look_of c.args.cache.now c.args.broken.now c.args.now.0 in
+    let look : Look = look_of c.args.cache.now c.args.broken.now c.args.answers.now c.args.now.0 in
     let rest = ap length c.in-Some.ensures.steps.0 in
     let more = settled_opened look c.loop-request.state c.in-Some.request in
     let sends = settled_sends look c.loop-request.state c.in-Some.request in
