@@ -9,6 +9,7 @@ use Rattle.altsvc_grammar.specs.ValueReading.{read_value}
 use Rattle.altsvc_grammar.specs.declared.alt_svc.AltSvc.{AltSvc}
 use Rattle.altsvc_grammar.specs.declared.refusal.AltRefusal.{AltRefusal}
 use Rattle.origin_values.specs.Equality.{origin_eq}
+use Rattle.origin_values.specs.declared.address.Addr.{Addr}
 use Rattle.origin_values.specs.declared.origin.Origin.{Origin}
 use Rattle.origin_values.proofs.Equal.{true_origin}
 use Rattle.route_events.specs.declared.fact.Fact.TheVariants.{Response}
@@ -40,7 +41,6 @@ use Rattle.conn_states.specs.Said.{said, in_set}
 use Rattle.conn_states.proofs.Joined.{joined_one}
 use Rattle.request_dispatch.specs.ConnectionTable.{misdirected_by, rebound}
 use Rattle.request_dispatch.specs.Carriers.{is_answered_by_authority}
-use Rattle.request_dispatch.specs.Looks.{no_address}
 use Rattle.request_dispatch.proofs.Listing.{any_map, any_same_in, map_twice}
 use Rattle.router_core.specs.Holds.{Hold, AreTried, IsOut, AreOut}
 use Rattle.router_core.specs.Effects.{field_done, answer_done, misdirected_for, answered_so, answered}
@@ -92,7 +92,7 @@ answer_is j now request status altsvc = by_request (request_of j request) altsvc
 
 -- the same is written
 
-authority_is : (t : Tables) (j : Journal) (now : ℕ) (q : Request) → Hold t j → is_answered_by_authority no_address q.number q.origin t.connections ≡ journal.is_answered_by_authority j now q
+authority_is : (t : Tables) (j : Journal) (now : ℕ) (q : Request) → Hold t j → is_answered_by_authority (known_at j now) q.number q.origin t.connections ≡ journal.is_answered_by_authority j now q
 authority_is t j now q hold =
     sym (any_map carries said t.connections)
     ∙ ap (list_any carries) hold.connections
@@ -101,15 +101,15 @@ authority_is t j now q hold =
     (λ c found. ap (λ b. is_one_of q.number (outstanding j c.number) && (b && carrier_at (known_at j now) q.origin (record_of j c))) (sym (in_filter (is_open j) c (connections j) found).1))
   where
     carries : ConnectionRecord → Bool
-    carries r = is_one_of q.number r.outstanding && carrier_at no_address q.origin r
+    carries r = is_one_of q.number r.outstanding && carrier_at (known_at j now) q.origin r
 
-field_is : (t : Tables) (j : Journal) (now status : ℕ) (altsvc : Option (List ℕ)) (x : Outstanding) → Hold t j → field_done t.connections status altsvc x ≡ field_effects j now status altsvc x.request
+field_is : (t : Tables) (j : Journal) (now status : ℕ) (altsvc : Option (List ℕ)) (x : Outstanding) → Hold t j → field_done (known_at j now) t.connections status altsvc x ≡ field_effects j now status altsvc x.request
 field_is t j now status None x hold = refl
 field_is t j now status (Some bytes) x hold =
     ap (λ b. cond (nat_eq status 421) (Field x.request.number 11 0) (cond (not (is_https x.request.origin.scheme)) (Field x.request.number 12 0) (cond (not b) (Field x.request.number 13 0) (value_taken x.request bytes))) ∷ []) (authority_is t j now x.request hold)
 
 written_is : (t : Tables) (j : Journal) (now request status : ℕ) (altsvc : Option (List ℕ)) (x : Outstanding) → Hold t j → request_of j request ≡ Some x.request →
-    answer_done t.connections request status altsvc (Some x) ≡ answer_effects j now request status altsvc
+    answer_done (known_at j now) t.connections request status altsvc (Some x) ≡ answer_effects j now request status altsvc
 written_is t j now request status altsvc x hold asked =
     ap (λ fields. retries request status ++ fields) (field_is t j now status altsvc x hold ∙ ap (λ v. option_map_or (field_effects j now status altsvc) v []) (sym asked))
 
@@ -348,12 +348,12 @@ answered_keeps s j now request status age altsvc x as' known none answer sound r
     }
     by_actions _ h = absurd h
 
--- a response
-pub answer_keeps : (s : StepState) (j : Journal) (now request status age : ℕ) (altsvc : Option (List ℕ)) → s.actions ≡ [] → Sound j → AreRising (requests j) → is_out (standing j request) ≡ true →
+-- a response, where the router knows the addresses that the journal does
+pub answer_keeps : (is_address : Origin → Addr → Bool) (s : StepState) (j : Journal) (now request status age : ℕ) (altsvc : Option (List ℕ)) → is_address ≡ known_at j now → s.actions ≡ [] → Sound j → AreRising (requests j) → is_out (standing j request) ≡ true →
     Hold s.tables j → requests_of s.tables.requests.waiting ≡ waiting j → AreTried j s.tables.requests.waiting → AreOut j s.tables.requests.outstanding →
-    Keeps (answered s request status altsvc) (with_actions (Happened now (Response request status age altsvc) true ∷ j) (answer_effects j now request status altsvc))
+    Keeps (answered is_address s request status altsvc) (with_actions (Happened now (Response request status age altsvc) true ∷ j) (answer_effects j now request status altsvc))
     (waiting (with_actions (Happened now (Response request status age altsvc) true ∷ j) (answer_effects j now request status altsvc)))
-answer_keeps s j now request status age altsvc none sound rise out hold asked tried outs = by_found (request_among s.tables.requests.outstanding request) refl (outs.out request ∙ out)
+answer_keeps is_address s j now request status age altsvc seen none sound rise out hold asked tried outs = by_found (request_among s.tables.requests.outstanding request) refl (outs.out request ∙ out)
   where
     k : List Action → Journal
     k as' = with_actions (Happened now (Response request status age altsvc) true ∷ j) as'
@@ -361,10 +361,13 @@ answer_keeps s j now request status age altsvc none sound rise out hold asked tr
     effects_now : List Action
     effects_now = answer_effects j now request status altsvc
 
+    written_now : (x : Outstanding) → request_of j request ≡ Some x.request → answer_done is_address s.tables.connections request status altsvc (Some x) ≡ effects_now
+    written_now x known = ap (λ at. answer_done at s.tables.connections request status altsvc (Some x)) seen ∙ written_is s.tables j now request status altsvc x hold known
+
     by_found : (v : Option Outstanding) → request_among s.tables.requests.outstanding request ≡ v → is_some v ≡ true →
-        Keeps (answered_so s request status v (answer_done s.tables.connections request status altsvc v)) (k effects_now) (waiting (k effects_now))
+        Keeps (answered_so s request status v (answer_done is_address s.tables.connections request status altsvc v)) (k effects_now) (waiting (k effects_now))
     by_found None e some = absurd (true≢false (sym some))
     by_found (Some x) e some =
         let known : request_of j request ≡ Some x.request = (outs.known request x e).request in
-        subst (λ as'. Keeps (answered_so s request status (Some x) as') (k effects_now) (waiting (k effects_now))) (sym (written_is s.tables j now request status altsvc x hold known))
+        subst (λ as'. Keeps (answered_so s request status (Some x) as') (k effects_now) (waiting (k effects_now))) (sym (written_now x known))
         (answered_keeps s j now request status age altsvc x effects_now known none (answer_is j now request status altsvc) sound rise out hold asked tried outs)

@@ -10,7 +10,7 @@ use Rattle.route_events.specs.declared.fact.Fact.{Fact}
 use Rattle.h2_framing.specs.declared.frame.Frame.{Frame}
 use Rattle.h2_framing.specs.declared.frame.Frame.TheVariants.{Kept, Passed}
 use Rattle.h2_framing.specs.declared.head.Head.{Head}
-use Rattle.route_events.specs.declared.fact.Fact.TheVariants.{Request, Opened, Failed, Closed, Response, Input, Delivered, Network, Tick, Who}
+use Rattle.route_events.specs.declared.fact.Fact.TheVariants.{Request, Opened, Failed, Closed, Response, Input, Delivered, Answer, Network, Tick, Who, Stats}
 use Rattle.route_events.specs.declared.refusal.StepRefusal.TheVariants.{Spent, TimeBack}
 use Rattle.route_events.specs.declared.action.Action.{Action}
 use Rattle.route_events.specs.declared.action.Action.TheVariants.{OpenTo, SendOn, Lost, Retry, Alternatives, Field, Close, Ignored, Origins}
@@ -28,12 +28,12 @@ use Rattle.request_dispatch.specs.AttemptTable.{attempt_among}
 use Rattle.request_dispatch.specs.RequestTable.{RequestTable, request_among, tried_after, placed, waits_again, sent_back, lost}
 use Rattle.route_events.specs.Connections.{is_one_of}
 use Rattle.request_dispatch.specs.ConnectionTable.{most_sends, listed_on, misdirected_by, is_left_out, rebound}
-use Rattle.request_dispatch.specs.Looks.{Look, live_at, look_of}
+use Rattle.request_dispatch.specs.Looks.{Look}
 use Rattle.request_dispatch.specs.StepStates.{settled, none_waiting}
 use Rattle.request_dispatch.proofs.Bounds.{over_opened, over_sends}
 use Rattle.router_core.specs.Reasons.{reason_of, reason_of_fact}
 use Rattle.router_core.specs.declared.course.Course.{Course}
-use Rattle.router_core.specs.Becomes.{after_effect, Becomes, CutBecomes, Delivers, Cuts, Follows}
+use Rattle.router_core.specs.Becomes.{seen, after_effect, Becomes, CutBecomes, Delivers, Cuts, Follows}
 use Rattle.router_core.specs.Effects.{ended, opened, made_of, begun_of, misdirected_for, answered_so, cut_so, with_effect}
 use Rattle.router_core.specs.Fitting.{brings}
 use Rattle.router_core.specs.FrameEffects.{frame_actions, listed_in, with_listing, delivered_so}
@@ -102,7 +102,9 @@ rebound_kept (Field request reason place ∷ as') cs = refl
 rebound_kept (Close conn count ∷ as') cs = refl
 rebound_kept (Ignored conn kind reason place ∷ as') cs = refl
 rebound_kept (Origins conn taken skipped ∷ as') cs = refl
+rebound_kept (action.Malformed name item reason place ∷ as') cs = refl
 rebound_kept (action.Who origin conns ∷ as') cs = refl
+rebound_kept (action.Stats alternatives answers broken connections waiting ∷ as') cs = refl
 
 -- one more waits, where one is sent back
 placed_length : (w : Waiting) (ws : List Waiting) → length (placed w ws) ≡ suc (length ws)
@@ -157,28 +159,30 @@ listing_kept conn (Some origins) cs = most_sends_kept (listed_on conn origins) c
     by_number c true = refl
     by_number c false = refl
 
-delivered_small : (s : StepState) (conn : ℕ) (head : Head) (payload : List ℕ) → IsSmall 0 s (delivered_so s conn head payload)
-delivered_small s conn head payload = record {
+delivered_small : (is_address : Origin → Addr → Bool) (s : StepState) (conn : ℕ) (head : Head) (payload : List ℕ) → IsSmall 0 s (delivered_so is_address s conn head payload)
+delivered_small is_address s conn head payload = record {
   opened = refl;
   waiting = omega arith;
   sends = omega (
     arith,
-    rebound_kept (frame_actions s.tables conn head payload) (with_listing conn (listed_in s.tables.connections conn head payload) s.tables.connections),
+    rebound_kept (frame_actions is_address s.tables conn head payload) (with_listing conn (listed_in s.tables.connections conn head payload) s.tables.connections),
     listing_kept conn (listed_in s.tables.connections conn head payload) s.tables.connections,
   );
 }
 
-pub effect_small : (live : Origin → List Alt) (s : StepState) (f : Fact) → IsSmall (brings f) s (with_effect live s f)
-effect_small live s (Request number origin) = record { opened = refl; waiting = omega (arith, length-append s.tables.requests.waiting (record { request = record { number = number; origin = origin }; tried = [] } ∷ [])); sends = omega arith }
-effect_small live s (Opened attempt proto addr port names) = opened_small live s (attempt_among s.tables.attempts.pending attempt) proto addr port names
-effect_small live s (Failed attempt) = ended_small s (attempt_among s.tables.attempts.pending attempt)
-effect_small live s (Closed conn) = record { opened = refl; waiting = omega arith; sends = most_sends_filter (λ (c : Record). not (nat_eq conn c.number)) s.tables.connections }
-effect_small live s (Response request status age altsvc) = answered_small s request status _ _
-effect_small live s (Input conn bytes) = record { opened = refl; waiting = omega arith; sends = omega arith }
-effect_small live s (Delivered conn head payload) = delivered_small s conn head payload
-effect_small live s (Who origin) = record { opened = refl; waiting = omega arith; sends = omega arith }
-effect_small live s Network = record { opened = refl; waiting = omega arith; sends = omega arith }
-effect_small live s Tick = record { opened = refl; waiting = omega arith; sends = omega arith }
+pub effect_small : (live : Origin → List Alt) (is_address : Origin → Addr → Bool) (s : StepState) (f : Fact) → IsSmall (brings f) s (with_effect live is_address s f)
+effect_small live is_address s (Request number origin) = record { opened = refl; waiting = omega (arith, length-append s.tables.requests.waiting (record { request = record { number = number; origin = origin }; tried = [] } ∷ [])); sends = omega arith }
+effect_small live is_address s (Opened attempt proto addr port names) = opened_small live s (attempt_among s.tables.attempts.pending attempt) proto addr port names
+effect_small live is_address s (Failed attempt) = ended_small s (attempt_among s.tables.attempts.pending attempt)
+effect_small live is_address s (Closed conn) = record { opened = refl; waiting = omega arith; sends = most_sends_filter (λ (c : Record). not (nat_eq conn c.number)) s.tables.connections }
+effect_small live is_address s (Response request status age altsvc) = answered_small s request status _ _
+effect_small live is_address s (Input conn bytes) = record { opened = refl; waiting = omega arith; sends = omega arith }
+effect_small live is_address s (Delivered conn head payload) = delivered_small is_address s conn head payload
+effect_small live is_address s (Who origin) = record { opened = refl; waiting = omega arith; sends = omega arith }
+effect_small live is_address s (Answer name ttl body) = record { opened = refl; waiting = omega arith; sends = omega arith }
+effect_small live is_address s Stats = record { opened = refl; waiting = omega arith; sends = omega arith }
+effect_small live is_address s Network = record { opened = refl; waiting = omega arith; sends = omega arith }
+effect_small live is_address s Tick = record { opened = refl; waiting = omega arith; sends = omega arith }
 
 -- a step that isn't refused leaves room for itself
 pub not_spent : (facts last newest : ℕ) (t : Tables) (now : ℕ) (f : Fact) → facts ≤ 16777215 → reason_of facts last newest t now f ≡ None → facts < 16777215
@@ -203,7 +207,7 @@ settled_within look old new s count small state few =
     }
 
 pub becomes_within : (old new : Course) (now : ℕ) (f : Fact) → Becomes old new now f → most_sends old.state.tables.connections + length old.state.tables.requests.waiting + brings f ≤ 16777215 → IsWithin 1 (brings f) old new
-becomes_within old new now f is few = settled_within (look_of new.alternatives new.broken now) old new (after_effect old now f) (brings f) (effect_small (live_at old.alternatives now) old.state f) is.state few
+becomes_within old new now f is few = settled_within (seen new now) old new (after_effect old now f) (brings f) (effect_small (seen old now).live (seen old now).is_address old.state f) is.state few
 
 pub delivers_within : (now conn : ℕ) (old : Course) (frames : List Frame) (new : Course) → Delivers now conn old frames new → most_sends old.state.tables.connections + length old.state.tables.requests.waiting ≤ 16777215 → IsWithin (length frames) 0 old new
 delivers_within now conn old [] new is few = rw is (record { opened = omega arith; sends = omega arith })
@@ -220,7 +224,7 @@ cut_small s conn count = record { opened = refl; waiting = omega arith; sends = 
 
 cut_within : (old new : Course) (now conn count : ℕ) → CutBecomes old new now conn count → most_sends old.state.tables.connections + length old.state.tables.requests.waiting ≤ 16777215 → IsWithin 1 0 old new
 cut_within old new now conn count is few =
-    settled_within (look_of old.alternatives old.broken now) old new (cut_so old.state conn count) 0 (cut_small old.state conn count) is.state (omega (arith, few))
+    settled_within (seen old now) old new (cut_so old.state conn count) 0 (cut_small old.state conn count) is.state (omega (arith, few))
 
 cuts_within : (now conn : ℕ) (old : Course) (w : Option ℕ) (new : Course) → Cuts now conn old w new → most_sends old.state.tables.connections + length old.state.tables.requests.waiting ≤ 16777215 → IsWithin 1 0 old new
 cuts_within now conn old None new is few = rw is (record { opened = omega arith; sends = omega arith })
@@ -242,6 +246,8 @@ brings_one (Closed conn) = omega arith
 brings_one (Response request status age altsvc) = omega arith
 brings_one (Input conn bytes) = omega arith
 brings_one (Delivered conn head payload) = omega arith
+brings_one (Answer name ttl body) = omega arith
+brings_one Stats = omega arith
 brings_one Network = omega arith
 brings_one Tick = omega arith
 brings_one (Who origin) = omega arith

@@ -13,7 +13,7 @@ use Rattle.route_choice.specs.declared.candidate.Candidate.{Candidate}
 use Rattle.route_events.specs.declared.action.Action.{Action}
 use Rattle.route_events.specs.declared.action.Action.TheVariants.{OpenTo, SendOn}
 use Rattle.route_events.specs.declared.route.Route.{Route}
-use Rattle.route_events.specs.declared.route.Route.TheVariants.{Direct}
+use Rattle.route_events.specs.declared.route.Route.TheVariants.{Direct, Rec}
 use Rattle.route_events.specs.declared.connection.Connection.{Connection}
 use Rattle.route_events.specs.Journal.{Journal}
 use Rattle.route_events.specs.Connections.{connections, is_open, open_connections}
@@ -21,7 +21,7 @@ use Rattle.route_events.specs.Alternatives.{live}
 use Rattle.route_events.specs.Records.{ConnectionRecord, is_occupied}
 use Rattle.route_events.specs.Authority.{route_eq, rests_on, authorises, record_of, is_authoritative, has_basis}
 use Rattle.route_events.specs.Backoff.{is_on, is_broken}
-use Rattle.route_events.specs.Routes.{by_alternatives, endpoints, routes, was_tried, is_usable, usable_routes, has_pending}
+use Rattle.route_events.specs.Routes.{by_alternatives, routes, was_tried, is_usable, usable_routes, has_pending}
 use Rattle.route_events.specs.Dispatch.{carriers, free_carriers, first_of, or_else, is_by_alternative, best, stream_after, alt_used, opening, opened_beside, is_in_use as journal_in_use, first_alternative, decide, dispatch}
 use Rattle.route_events.proofs.Lists.{IsIn, in_filter, filter_in, filter_same, filter_twice, apart_filter, find_apart}
 use Rattle.route_events.proofs.Quiet.{is_none_left, best_in}
@@ -133,11 +133,9 @@ carried_is t j now o hold =
 -- routes
 
 routes_are : (look : Look) (j : Journal) (now : ℕ) (o : Origin) → Sees look j now → routes_to look o ≡ routes j o now
-routes_are look j now o sees = ap (λ alts. by_alternatives alts ++ Direct ∷ []) (sees.live_seen o) ∙ no_more (by_alternatives (live j o now))
-  where
-    no_more : (rs : List Route) → rs ++ Direct ∷ [] ≡ rs ++ endpoints j o now ++ Direct ∷ []
-    no_more [] = refl
-    no_more (r ∷ rs) = ap (λ ss. r ∷ ss) (no_more rs)
+routes_are look j now o sees =
+    ap (λ alts. by_alternatives alts ++ map Rec (look.endpoints o) ++ Direct ∷ []) (sees.live_seen o)
+    ∙ ap (λ found. by_alternatives (live j o now) ++ map Rec found ++ Direct ∷ []) (sees.endpoints_seen o)
 
 usable_are : (look : Look) (w : Waiting) (j : Journal) (now : ℕ) → Sees look j now → ((r : Route) → is_listed w.tried r ≡ was_tried j w.request r) → usable look w ≡ usable_routes j w.request now
 usable_are look w j now sees tried =

@@ -36,9 +36,11 @@ number_fact j now (fact.Closed c) = refl
 number_fact j now (fact.Response q status age altsvc) = refl
 number_fact j now (fact.Input c bytes) = refl
 number_fact j now (fact.Delivered c head payload) = refl
+number_fact j now (fact.Answer name ttl body) = refl
 number_fact j now fact.Network = refl
 number_fact j now fact.Tick = refl
 number_fact j now (fact.Who o) = refl
+number_fact j now fact.Stats = refl
 
 pub number_step : (j : Journal) (now : ℕ) (f : Fact) (conn : ℕ) (frames : List Frame) (w : Option ℕ) → parts_behind j now f ≡ flat_map (delivery now conn) frames ++ cut_by now conn w → newest_number (step j now f) ≡ newest_after (newest_number j) f
 number_step j now f conn frames w parts = read_step newest_number (λ conn n. n) number_read j now f conn frames w parts ∙ none_cut conn w (newest_number (Happened now f true ∷ j)) ∙ number_fact j now f

@@ -10,6 +10,7 @@ use Rattle.h2_framing.specs.declared.head.Head.{Head}
 use Rattle.origin_frame.specs.declared.listed.Listed.{Listed}
 use Rattle.origin_frame.specs.declared.refusal.OriginFrameRefusal.{OriginFrameRefusal}
 use Rattle.origin_frame.specs.PayloadReading.{read_listed}
+use Rattle.origin_values.specs.declared.address.Addr.{Addr}
 use Rattle.origin_values.specs.declared.origin.Origin.{Origin}
 use Rattle.route_events.specs.declared.action.Action.{Action}
 use Rattle.route_events.specs.declared.action.Action.TheVariants.{Alternatives, Ignored, Origins}
@@ -113,7 +114,7 @@ origin_on j outs conn stream sound are =
 
 -- the same is done
 
-value_is : (j : Journal) (now : ℕ) (x : Connection) (value : AltSvc) (v : Option Origin) → is_open j x ≡ true → value_done (record_of j x) value v ≡ value_action j now x value v
+value_is : (j : Journal) (now : ℕ) (x : Connection) (value : AltSvc) (v : Option Origin) → is_open j x ≡ true → value_done (known_at j now) (record_of j x) value v ≡ value_action j now x value v
 value_is j now x value None open_now = refl
 value_is j now x value (Some o) open_now =
     ap (λ b. cond (not (is_https o.scheme)) (Ignored x.number 10 9 0) (cond (not (b && carrier_at (known_at j now) o (record_of j x))) (Ignored x.number 10 7 0) (Alternatives o value))) (sym open_now)
@@ -121,21 +122,24 @@ value_is j now x value (Some o) open_now =
 spoken_is : (j : Journal) (outs : List Outstanding) (conn stream : ℕ) (frame : AltFrame) → Sound j → AreOut j outs → spoken_for outs (outstanding j conn) stream frame ≡ spoken_for_in j conn stream frame
 spoken_is j outs conn stream frame sound are = ap (cond (nat_eq stream 0) frame.origin) (origin_on j outs conn stream sound are)
 
-reading_is : (j : Journal) (outs : List Outstanding) (now : ℕ) (x : Connection) (stream : ℕ) (r : Result AltFrame (At AltFrameRefusal)) → Sound j → AreOut j outs → is_open j x ≡ true → reading_done outs (record_of j x) stream r ≡ reading_action j now x stream r
+reading_is : (j : Journal) (outs : List Outstanding) (now : ℕ) (x : Connection) (stream : ℕ) (r : Result AltFrame (At AltFrameRefusal)) → Sound j → AreOut j outs → is_open j x ≡ true → reading_done (known_at j now) outs (record_of j x) stream r ≡ reading_action j now x stream r
 reading_is j outs now x stream (Ok frame) sound are open_now =
-    ap (value_done (record_of j x) frame.value) (spoken_is j outs x.number stream frame sound are) ∙ value_is j now x frame.value (spoken_for_in j x.number stream frame) open_now
+    ap (value_done (known_at j now) (record_of j x) frame.value) (spoken_is j outs x.number stream frame sound are) ∙ value_is j now x frame.value (spoken_for_in j x.number stream frame) open_now
 reading_is j outs now x stream (Err at) sound are open_now = refl
 
-frame_is : (j : Journal) (outs : List Outstanding) (now : ℕ) (head : Head) (payload : List ℕ) (x : Connection) → Sound j → AreOut j outs → is_open j x ≡ true → frame_done outs head payload (record_of j x) ≡ frame_action j now head payload x
+frame_is : (j : Journal) (outs : List Outstanding) (now : ℕ) (head : Head) (payload : List ℕ) (x : Connection) → Sound j → AreOut j outs → is_open j x ≡ true → frame_done (known_at j now) outs head payload (record_of j x) ≡ frame_action j now head payload x
 frame_is j outs now head payload x sound are open_now =
     ap (λ a. cond (nat_eq head.kind 10) (cond (not (is_tls x)) (Ignored x.number 10 10 0) a ∷ []) (cond (nat_eq head.kind 12) (origin_action x head payload ∷ []) []))
     (reading_is j outs now x head.stream (read_frame head.stream payload) sound are open_now)
 
-pub done_is : (t : Tables) (j : Journal) (now conn : ℕ) (head : Head) (payload : List ℕ) → Sound j → Hold t j → AreOut j t.requests.outstanding → frame_actions t conn head payload ≡ frame_effects j now conn head payload
-done_is t j now conn head payload sound hold are =
-    ap (λ v. option_map_or (frame_done t.requests.outstanding head payload) v []) (among_is t j conn hold) ∙ by_found (open_connection j conn) refl
+pub done_is : (is_address : Origin → Addr → Bool) (t : Tables) (j : Journal) (now conn : ℕ) (head : Head) (payload : List ℕ) → is_address ≡ known_at j now → Sound j → Hold t j → AreOut j t.requests.outstanding →
+    frame_actions is_address t conn head payload ≡ frame_effects j now conn head payload
+done_is is_address t j now conn head payload seen sound hold are =
+    ap (λ at. frame_actions at t conn head payload) seen
+    ∙ ap (λ v. option_map_or (frame_done (known_at j now) t.requests.outstanding head payload) v []) (among_is t j conn hold)
+    ∙ by_found (open_connection j conn) refl
   where
-    by_found : (v : Option Connection) → open_connection j conn ≡ v → option_map_or (frame_done t.requests.outstanding head payload) (option_map (record_of j) v) [] ≡ option_map_or (frame_action j now head payload) v []
+    by_found : (v : Option Connection) → open_connection j conn ≡ v → option_map_or (frame_done (known_at j now) t.requests.outstanding head payload) (option_map (record_of j) v) [] ≡ option_map_or (frame_action j now head payload) v []
     by_found None e = refl
     by_found (Some x) e =
         let there = (find_in (λ (c : Connection). nat_eq c.number conn) (open_connections j) x e).0 in

@@ -1,9 +1,15 @@
 -- What may be forgotten: a router that stands for a history stands for each one that is alike.
-use Rattle.std.proofs.Common.{◌≡◌, ℕ, ◌+◌, zero, suc, true, inl, inr, nat_eq, List, [], ◌∷◌, map, find, length, Some, None, is_some, All, refl, ap, sym, ◌∙◌, subst, arith}
+use Rattle.std.proofs.Common.{◌≡◌, ℕ, ◌+◌, ◌≤◌, zero, suc, true, inl, inr, nat_eq, List, [], ◌∷◌, map, find, length, Option, Some, None, is_some, All, refl, ap, sym, ◌∙◌, subst, arith}
 use Rattle.alt_base.proofs.Booleans.{one_truth}
+use Rattle.alias_chain.specs.Held.{in_force}
+use Rattle.alias_chain.specs.Walk.{NameOf}
+use Rattle.answer_store.specs.Bodies.{Kind, A, Aaaa, Https, Body, Addresses4, Addresses6, Records, of_kind}
+use Rattle.answer_store.proofs.OfKinds.{in_force_of, in_force_later}
 use Rattle.route_choice.specs.Capped.{capped}
+use Rattle.route_events.specs.declared.answer.AnswerBody.{AnswerBody}
 use Rattle.route_events.specs.declared.connection.Connection.{Connection}
-use Rattle.route_events.specs.Journal.{Journal}
+use Rattle.route_events.specs.Answers.{addresses4, addresses6, records, newest_answer}
+use Rattle.route_events.specs.Journal.{Journal, newest_moment}
 use Rattle.route_events.specs.Requests.{standing, is_out}
 use Rattle.frame_readers.specs.declared.readers.ReaderOf.{ReaderOf}
 use Rattle.frame_readers.specs.Readers.{Reads, reader_among, skipped_of}
@@ -24,6 +30,8 @@ use Rattle.request_dispatch.specs.RequestTable.{request_among, requests_of}
 use Rattle.router_core.specs.declared.router.Router.{Router}
 use Rattle.router_core.specs.Holds.{AreTried, IsOut, AreOut, AreRead}
 use Rattle.router_core.specs.StandsFor.{StandsFor}
+use Rattle.router_core.specs.StoredAnswers.{as_kind, answer_of}
+use Rattle.router_core.proofs.Resolving.{newest_as}
 
 same_record : (a b : ConnectionRecord) → SameRecord a b → a ≡ b
 same_record a b same = λ i. record {
@@ -96,6 +104,25 @@ same_read rs j k alike run are = record {
         (subst (λ m. too_large_of (octets_on k m) ≡ None) in_k.numbered (of_all (λ (c : Connection). too_large_of (octets_on k c.number) ≡ None) in_k.connection (open_connections k) in_k.there (open_goes_on k run)))
         (are.octets n (open_too n ∙ h))
 
+-- of each name and kind the same answer is in force at each later moment
+same_kind : {B : Type 0} (body : B → Body) (brings : AnswerBody → Option B) (j k : Journal) (name : NameOf) (now : ℕ) → newest_moment j ≡ newest_moment k →
+    in_force (newest_moment j) (newest_answer brings j name) ≡ in_force (newest_moment k) (newest_answer brings k name) → newest_moment j ≤ now →
+    in_force now (newest_answer (as_kind body brings) j name) ≡ in_force now (newest_answer (as_kind body brings) k name)
+same_kind body brings j k name now at same later =
+    ap (in_force now) (newest_as body brings j name)
+    ∙ sym (in_force_of body now (newest_answer brings j name))
+    ∙ ap (of_kind body)
+    (sym (in_force_later (newest_moment j) now (newest_answer brings j name) later)
+    ∙ ap (in_force now) same
+    ∙ in_force_later (newest_moment k) now (newest_answer brings k name) (omega (arith, at, later)))
+    ∙ in_force_of body now (newest_answer brings k name)
+    ∙ sym (ap (in_force now) (newest_as body brings k name))
+
+same_answers : (j k : Journal) (name : NameOf) (kind : Kind) (now : ℕ) → Alike j k → newest_moment j ≤ now → in_force now (answer_of j name kind) ≡ in_force now (answer_of k name kind)
+same_answers j k name A now alike later = same_kind Addresses4 addresses4 j k name now alike.moment (alike.v4_answers name) later
+same_answers j k name Aaaa now alike later = same_kind Addresses6 addresses6 j k name now alike.moment (alike.v6_answers name) later
+same_answers j k name Https now alike later = same_kind Records records j k name now alike.moment (alike.https_answers name) later
+
 pub forgets : (router : Router) (j k : Journal) → StandsFor router j → Alike j k → IsRun k → StandsFor router k
 forgets router j k stands alike run = record {
   run = run;
@@ -113,5 +140,7 @@ forgets router j k stands alike run = record {
   readers = same_read router.readers j k alike run stands.readers;
   alternatives = λ o now h. stands.alternatives o now (omega (arith, h, alike.moment)) ∙ alike_live j k o now alike (omega (arith, h, alike.moment));
   none_ended = stands.none_ended;
-  failures = λ o key. stands.failures o key ∙ ap capped (alike_failures j k o key alike);
+  failures = λ o r other. stands.failures o r other ∙ ap capped (alike_failures j k o r other alike);
+  answers = λ name kind now h. stands.answers name kind now (omega (arith, h, alike.moment)) ∙ same_answers j k name kind now alike (omega (arith, h, alike.moment));
+  no_ended_answer = stands.no_ended_answer;
 }

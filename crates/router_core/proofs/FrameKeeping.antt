@@ -1,6 +1,8 @@
 -- The effect of a frame, for what a router keeps, is its effect for the journal.
 use Rattle.std.proofs.Common.{◌≡◌, ℕ, Bool, List, [], ◌∷◌, ◌++◌, ap, sym, ◌∙◌, subst}
 use Rattle.h2_framing.specs.declared.head.Head.{Head}
+use Rattle.origin_values.specs.declared.address.Addr.{Addr}
+use Rattle.origin_values.specs.declared.origin.Origin.{Origin}
 use Rattle.route_events.specs.declared.action.Action.{Action}
 use Rattle.route_events.specs.declared.action.Action.TheVariants.{Alternatives, Ignored, Origins}
 use Rattle.route_events.specs.declared.fact.Fact.TheVariants.{Delivered}
@@ -19,6 +21,7 @@ use Rattle.router_core.proofs.Answering.{hold_value}
 use Rattle.router_core.proofs.Applying.{newest_with, tried_with}
 use Rattle.router_core.proofs.Delivering.{IsFrameAnswer, frame_answer, done_is}
 use Rattle.router_core.proofs.Gating.{hold_listing}
+use Rattle.router_core.proofs.Knowing.{known_at}
 use Rattle.router_core.proofs.SettlingSo.{Keeps}
 
 -- a frame ends no attempt
@@ -26,13 +29,13 @@ tried_frame : (j : Journal) (now conn : ℕ) (head : Head) (payload : List ℕ) 
 tried_frame j now conn head payload h [] was = tt
 tried_frame j now conn head payload h (w ∷ ws) was = (was.0, tried_frame j now conn head payload h ws was.1)
 
-pub frame_keeps : (s : StepState) (j : Journal) (now conn : ℕ) (head : Head) (payload : List ℕ) (h : Bool) → s.actions ≡ newest_actions (Happened now (Delivered conn head payload) h ∷ j) → Sound j →
+pub frame_keeps : (is_address : Origin → Addr → Bool) (s : StepState) (j : Journal) (now conn : ℕ) (head : Head) (payload : List ℕ) (h : Bool) → is_address ≡ known_at j now → s.actions ≡ newest_actions (Happened now (Delivered conn head payload) h ∷ j) → Sound j →
     Hold s.tables j → requests_of s.tables.requests.waiting ≡ waiting j → AreTried j s.tables.requests.waiting → AreOut j s.tables.requests.outstanding →
-    Keeps (delivered_so s conn head payload) (with_actions (Happened now (Delivered conn head payload) h ∷ j) (frame_effects j now conn head payload))
+    Keeps (delivered_so is_address s conn head payload) (with_actions (Happened now (Delivered conn head payload) h ∷ j) (frame_effects j now conn head payload))
     (waiting (with_actions (Happened now (Delivered conn head payload) h ∷ j) (frame_effects j now conn head payload)))
-frame_keeps s j now conn head payload h before sound hold asked tried outs =
+frame_keeps is_address s j now conn head payload h seen before sound hold asked tried outs =
     subst (λ as'. Keeps (after as') (with_actions k (frame_effects j now conn head payload)) (waiting (with_actions k (frame_effects j now conn head payload))))
-    (sym (done_is s.tables j now conn head payload sound hold outs))
+    (sym (done_is is_address s.tables j now conn head payload seen sound hold outs))
     (by_actions (frame_effects j now conn head payload) (frame_answer j now conn head payload))
   where
     k : Journal

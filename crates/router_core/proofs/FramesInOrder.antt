@@ -5,6 +5,7 @@ use Rattle.std.proofs.lemmas.List.Elements.{All-tail}
 use Rattle.h2_framing.specs.declared.frame.Frame.{Frame}
 use Rattle.h2_framing.specs.declared.frame.Frame.TheVariants.{Kept, Passed}
 use Rattle.frame_readers.specs.Readers.{Fits}
+use Rattle.answer_store.specs.Contents.{newest_moment as newest_answer}
 use Rattle.network_cache.specs.Contents.{newest_moment}
 use Rattle.route_choice.specs.Contents.{newest_moment as newest_failure}
 use Rattle.request_dispatch.specs.ConnectionTable.{most_sends}
@@ -23,18 +24,20 @@ pub record ComesSoFar (now conn : ℕ) (old course : Course) (frames left : List
   pub opened : course.state.tables.attempts.opened + length left * 16777215 < 2 ^ 63
   pub sends : most_sends course.state.tables.connections + length course.state.tables.requests.waiting ≤ 16777215
   pub alternatives : newest_moment course.alternatives ≤ now
+  pub answers : newest_answer course.answers ≤ now
   pub failures : newest_failure course.broken ≤ now
   pub fit : All Fits left
 
 pub comes_further : (now conn : ℕ) (old course next : Course) (frames : List Frame) (frame : Frame) (left : List Frame) → ComesSoFar now conn old course frames (frame ∷ left) → Delivers now conn course (frame ∷ []) next →
-    newest_moment next.alternatives ≤ now → newest_failure next.broken ≤ now → ComesSoFar now conn old next frames left
-comes_further now conn old course next frames frame left comes delivers alternatives failures =
+    newest_moment next.alternatives ≤ now → newest_answer next.answers ≤ now → newest_failure next.broken ≤ now → ComesSoFar now conn old next frames left
+comes_further now conn old course next frames frame left comes delivers alternatives answers failures =
     let within = delivers_within now conn course (frame ∷ []) next delivers comes.sends in
     record {
       rest = λ new is. comes.rest new (delivers_more now conn course next new frame left delivers is);
       opened = omega (arith, comes.opened, within.opened);
       sends = omega (arith, comes.sends, within.sends);
       alternatives = alternatives;
+      answers = answers;
       failures = failures;
       fit = All-tail Fits frame left comes.fit;
     }

@@ -13,7 +13,7 @@ use Rattle.origin_values.proofs.Equal.{true_origin, origin_self}
 use Rattle.network_cache.proofs.Origins.{turned_not}
 use Rattle.route_events.specs.declared.fact.Fact.TheVariants.{Response}
 use Rattle.route_events.specs.declared.route.Route.{Route}
-use Rattle.route_events.specs.declared.route.Route.TheVariants.{Direct, Alt}
+use Rattle.route_events.specs.declared.route.Route.TheVariants.{Direct, Alt, Rec}
 use Rattle.route_events.specs.declared.request.Request.{Request}
 use Rattle.route_events.specs.declared.connection.Connection.{Connection}
 use Rattle.route_events.specs.Journal.{Journal}
@@ -68,13 +68,17 @@ one_passes w p b (c ∷ cs) same apart = by_test (p c) refl (one_passes w p b cs
     by_test true e rest = ap (λ a. (w c && b) || a) (none_pass w p b cs (others e)) ∙ alone (w c && b)
     by_test false e rest = ap (λ a. a || list_any (λ d. w d && (p d && b)) cs) (and_right (w c) false refl) ∙ rest
 
--- the alternative that a connection of an origin was opened by
-led_is : (mine asked o : Origin) (key : AltKey) (route : Route) → is_given (cond (origin_eq mine asked) (key_of asked route) None) o key ≡ ((origin_eq mine o && is_route_by key route) && origin_eq asked o)
-led_is mine asked o key Direct = nothing (origin_eq mine asked) ∙ sym (and_left (origin_eq mine o && false) (origin_eq asked o) (and_right (origin_eq mine o) false refl))
+-- the alternative that a connection of an origin was opened by: none by another route
+led_by_none : (mine asked o : Origin) (key : AltKey) → is_given (cond (origin_eq mine asked) None None) o key ≡ ((origin_eq mine o && false) && origin_eq asked o)
+led_by_none mine asked o key = nothing (origin_eq mine asked) ∙ sym (and_left (origin_eq mine o && false) (origin_eq asked o) (and_right (origin_eq mine o) false refl))
   where
     nothing : (b : Bool) → is_given (cond b None None) o key ≡ false
     nothing true = refl
     nothing false = refl
+
+led_is : (mine asked o : Origin) (key : AltKey) (route : Route) → is_given (cond (origin_eq mine asked) (key_of asked route) None) o key ≡ ((origin_eq mine o && is_route_by key route) && origin_eq asked o)
+led_is mine asked o key Direct = led_by_none mine asked o key
+led_is mine asked o key (Rec endpoint) = led_by_none mine asked o key
 led_is mine asked o key (Alt own) = by_asked (origin_eq asked o) refl
   where
     k : Bool

@@ -1,4 +1,7 @@
+mod ReadingRecords
+mod Putting
 mod Knowing
+mod Resolving
 mod Choosing
 mod Permitted
 mod Applying
@@ -11,6 +14,7 @@ mod Answering
 mod Gating
 mod Delivering
 mod FrameKeeping
+mod Naming
 mod GivingUp
 mod Noting
 mod Bounds
@@ -20,6 +24,7 @@ mod OpenAfter
 mod ReadersAfter
 mod Counting
 mod PartsDone
+mod Tallying
 mod Steps
 mod WholeSteps
 mod Forgetting

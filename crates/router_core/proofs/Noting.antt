@@ -1,5 +1,6 @@
 -- What a step notes of failures and alternatives is what the journal says from then on.
-use Rattle.std.proofs.Common.{◌≡◌, ℕ, ◌+◌, Bool, true, false, cond, not, ◌&&◌, List, [], ◌∷◌, map, filter, Option, Some, None, refl, ap, sym, ◌∙◌, arith, min}
+use Rattle.std.proofs.Common.{◌≡◌, ℕ, ◌+◌, Bool, true, false, cond, not, ◌&&◌, List, [], ◌∷◌, map, filter, Option, Some, None, Ok, Err, refl, ap, sym, ◌∙◌, arith, min, true≢false}
+use Rattle.alias_chain.specs.Walk.{NameOf}
 use Rattle.coalescing.specs.declared.cert_name.CertName.{CertName}
 use Rattle.h2_framing.specs.declared.head.Head.{Head}
 use Rattle.origin_values.specs.Equality.{origin_eq}
@@ -13,17 +14,23 @@ use Rattle.network_cache.specs.declared.kept.Kept.{Kept}
 use Rattle.network_cache.specs.Freshness.{taken_at, is_fresh, has_other_key}
 use Rattle.network_cache.proofs.Origins.{turned, turned_not}
 use Rattle.route_choice.specs.Capped.{capped}
+use Rattle.route_events.specs.declared.answer.AnswerBody.{AnswerBody}
+use Rattle.route_events.specs.declared.answer.AnswerBody.TheVariants.{V4, V6, Https}
 use Rattle.route_events.specs.declared.fact.Fact.{Fact}
 use Rattle.route_events.specs.declared.fact.Fact.TheVariants as fact
 use Rattle.route_events.specs.declared.action.Action.{Action}
 use Rattle.route_events.specs.declared.action.Action.TheVariants.{Lost, Retry, Alternatives, Field, Ignored, Origins}
 use Rattle.route_events.specs.declared.route.Route.{Route}
+use Rattle.route_events.specs.declared.route.Route.TheVariants.{Direct, Alt as ByAlternative, Rec}
 use Rattle.route_events.specs.declared.attempt.Attempt.{Attempt}
+use Rattle.route_events.specs.Answers.{Records, read_records, malformed, malformed_effects}
 use Rattle.route_events.specs.Journal.{Happened, Taken, Journal}
+use Rattle.std.proofs.lemmas.Bool.{and_right}
 use Rattle.route_events.specs.Attempts.{pending_attempt}
+use Rattle.route_events.specs.Authority.{route_eq}
 use Rattle.route_events.specs.Alternatives.{alternatives_of, age_in, live}
 use Rattle.route_events.specs.Alternatives as journal
-use Rattle.route_events.specs.Backoff.{Failures, no_failures, failed_at, failures, failures_after, is_on}
+use Rattle.route_events.specs.Backoff.{Failures, no_failures, failed_at, failures, failures_after, is_direct, is_on}
 use Rattle.route_events.specs.Connections.{outstanding, answered_in}
 use Rattle.route_events.specs.Requests.{standing, is_out}
 use Rattle.route_events.specs.Misdirection.{gives_up}
@@ -36,12 +43,24 @@ use Rattle.request_dispatch.specs.AttemptTable.{attempt_among}
 use Rattle.request_dispatch.specs.Successes.{succeeds}
 use Rattle.request_dispatch.proofs.Listing.{filter_map}
 use Rattle.router_core.specs.Holds.{Hold, AreOut}
-use Rattle.router_core.specs.Notes.{failure_noted, opening_noted, failures_noted, given_up, spared, value_noted, kept_after}
+use Rattle.router_core.specs.Notes.{end_noted, failure_noted, opening_noted, failures_noted, given_up, spared, value_noted, kept_after}
 use Rattle.router_core.proofs.Answering.{IsAnswer, answer_is}
 use Rattle.router_core.proofs.Delivering.{IsFrameAnswer, frame_answer}
 use Rattle.router_core.proofs.GivingUp.{is_given, given_up_is}
 
 -- failures
+
+-- nothing is noted of another route where an attempt by the direct one ends
+pub nothing_noted : (now : ℕ) (success : Bool) (a : Attempt) (o : Origin) (r : Route) (f : Failures) → a.route ≡ Direct → is_direct r ≡ false → f ≡ end_noted now success a o r f
+nothing_noted now success a o r f direct other = sym (ap (λ (b : Bool). cond b (cond success no_failures (capped (failed_at now f))) f) not_on)
+  where
+    other_than : (r : Route) → is_direct r ≡ false → route_eq Direct r ≡ false
+    other_than Direct e = absurd (true≢false e)
+    other_than (ByAlternative key) e = refl
+    other_than (Rec endpoint) e = refl
+
+    not_on : is_on o r a ≡ false
+    not_on = and_right (origin_eq a.origin o) (route_eq a.route r) (ap (λ (s : Route). route_eq s r) direct ∙ other_than r other)
 
 pub failures_with : (j : Journal) (as' : List Action) (o : Origin) (r : Route) → failures (with_actions j as') o r ≡ failures j o r
 failures_with j [] o r = refl
@@ -79,9 +98,11 @@ noted_capped t j now (fact.Closed c) o r fs hold = refl
 noted_capped t j now (fact.Response q status age altsvc) o r fs hold = refl
 noted_capped t j now (fact.Input c bytes) o r fs hold = refl
 noted_capped t j now (fact.Delivered c head payload) o r fs hold = refl
+noted_capped t j now (fact.Answer name ttl body) o r fs hold = refl
 noted_capped t j now fact.Network o r fs hold = refl
 noted_capped t j now fact.Tick o r fs hold = refl
 noted_capped t j now (fact.Who p) o r fs hold = refl
+noted_capped t j now fact.Stats o r fs hold = refl
 
 pub failures_noted_are : (t : Tables) (j : Journal) (now : ℕ) (f : Fact) (h : Bool) (o : Origin) (r : Route) (fs : Failures) → Hold t j → fs ≡ capped (failures j o r) →
     failures_noted t.attempts.pending now f o r fs ≡ capped (failures (with_actions (Happened now f h ∷ j) (effects j now f)) o r)
@@ -165,6 +186,17 @@ lost_noted : (now age : ℕ) (qs : List ℕ) (o : Origin) (ks : List Kept) → v
 lost_noted now age [] o ks = refl
 lost_noted now age (q ∷ qs) o ks = refl
 
+-- a malformed record that is named changes no alternatives
+malformed_live : (now : ℕ) (body : AnswerBody) (o : Origin) (at : ℕ) (ks : List Kept) (j : Journal) (name : NameOf) → fresh_alts at ks ≡ live j o at →
+    fresh_alts at (value_noted now 0 (malformed_effects name body) o ks) ≡ live (with_actions j (malformed_effects name body)) o at
+malformed_live now (V4 addresses) o at ks j name e = e
+malformed_live now (V6 addresses) o at ks j name e = e
+malformed_live now (Https rdatas) o at ks j name e = by_read (read_records 1 rdatas)
+  where
+    by_read : (read : Records) → fresh_alts at (value_noted now 0 (malformed name read) o ks) ≡ live (with_actions j (malformed name read)) o at
+    by_read (Ok rs) = e
+    by_read (Err first) = e
+
 pub live_noted : (t : Tables) (j : Journal) (now : ℕ) (f : Fact) (h : Bool) (o : Origin) (at : ℕ) (ks : List Kept) → Sound j → Hold t j → AreOut j t.requests.outstanding →
     ((q : ℕ) → answered_in f ≡ Some q → is_out (standing j q) ≡ true) → fresh_alts at ks ≡ live j o at →
     fresh_alts at (value_noted now (age_in f) (effects j now f) o (spared (given_up t f) o (kept_after f ks))) ≡ live (with_actions (Happened now f h ∷ j) (effects j now f)) o at
@@ -184,6 +216,8 @@ live_noted t j now (fact.Response q status age altsvc) h o at ks sound hold outs
     answered_live j now q status age altsvc h o at (spared g o ks) (effects j now f) (answer_is j now q status altsvc) left
 live_noted t j now (fact.Input c bytes) h o at ks sound hold outs out e = e
 live_noted t j now (fact.Delivered c head payload) h o at ks sound hold outs out e = frame_live j now c head payload h o at ks (frame_effects j now c head payload) (frame_answer j now c head payload) e
+live_noted t j now (fact.Answer name ttl body) h o at ks sound hold outs out e = malformed_live now body o at ks (Happened now (fact.Answer name ttl body) h ∷ j) name e
 live_noted t j now fact.Network h o at ks sound hold outs out e = tested_fresh (λ a. a.persist) at ks ∙ ap (filter (λ (a : Alt). a.persist)) e
 live_noted t j now fact.Tick h o at ks sound hold outs out e = e
 live_noted t j now (fact.Who p) h o at ks sound hold outs out e = e
+live_noted t j now fact.Stats h o at ks sound hold outs out e = e

@@ -1,9 +1,13 @@
 -- A part of a step, for what a router keeps, is the part for the journal.
 use Rattle.std.proofs.Common.{◌≡◌, inl, inr, ℕ, ◌<◌, ◌≤◌, Bool, true, false, cond, nat_eq, nat_lt, List, [], ◌∷◌, ◌++◌, map, filter, drop, length, Option, Some, None, is_some, refl, ap, sym, ◌∙◌, subst, arith, true≢false}
 use Rattle.std.proofs.lemmas.List.{map-append}
-use Rattle.altsvc_grammar.specs.declared.alt_key.AltKey.{AltKey}
+use Rattle.alias_chain.specs.Held.{in_force}
+use Rattle.alias_chain.specs.Walk.{NameOf}
+use Rattle.answer_store.specs.Bodies.{Kind}
+use Rattle.answer_store.specs.Contents.{kept as kept_answer}
 use Rattle.network_cache.specs.Contents.{kept, live as cache_live}
 use Rattle.origin_values.specs.declared.origin.Origin.{Origin}
+use Rattle.route_choice.specs.declared.broken.Broken.{Broken}
 use Rattle.route_choice.specs.Capped.{capped}
 use Rattle.route_choice.specs.Contents.{kept_failures}
 use Rattle.route_choice.proofs.Backoffs.{capped_barred}
@@ -13,9 +17,9 @@ use Rattle.route_events.specs.declared.action.Action.TheVariants.{Lost, Close}
 use Rattle.route_events.specs.declared.request.Request.{Request}
 use Rattle.route_events.specs.declared.refusal.StepRefusal.TheVariants.{NoSuchRequest}
 use Rattle.route_events.specs.declared.route.Route.{Route}
-use Rattle.route_events.specs.declared.route.Route.TheVariants.{Direct, Alt}
+use Rattle.route_events.specs.declared.route.Route.TheVariants.{Direct, Alt, Rec}
 use Rattle.route_events.specs.Alternatives.{age_in, live}
-use Rattle.route_events.specs.Backoff.{failures, is_barred_by, is_broken}
+use Rattle.route_events.specs.Backoff.{is_direct, failures, is_barred_by, is_broken}
 use Rattle.route_events.specs.Connections.{is_open_number, outstanding, answered_in}
 use Rattle.route_events.specs.Journal.{Happened, Cut, Taken, Journal, step_count, newest_moment}
 use Rattle.route_events.specs.Requests.{requests, newest_number, standing, waits, is_out, waiting}
@@ -29,22 +33,25 @@ use Rattle.request_dispatch.specs.declared.step_state.StepState.{StepState}
 use Rattle.request_dispatch.specs.declared.waiting.Waiting.{Waiting}
 use Rattle.request_dispatch.specs.AttemptTable.{attempt_among, other_attempts}
 use Rattle.request_dispatch.specs.ConnectionTable.{connection_among, out_on}
-use Rattle.request_dispatch.specs.Looks.{Look, live_at, look_of}
+use Rattle.request_dispatch.specs.Looks.{Look, live_at, address_at, look_of}
 use Rattle.request_dispatch.specs.RequestTable.{requests_of, without_all, after_end}
 use Rattle.request_dispatch.specs.StepStates.{none_waiting, settled}
 use Rattle.request_dispatch.proofs.Listing.{filter_within}
 use Rattle.router_core.specs.declared.course.Course.{Course}
-use Rattle.router_core.specs.Becomes.{after_effect, done_by, Becomes, CutBecomes}
+use Rattle.router_core.specs.Becomes.{seen, after_effect, done_by, Becomes, CutBecomes}
 use Rattle.router_core.specs.Effects.{ended, opened, cut_so}
 use Rattle.router_core.specs.Holds.{Hold, AreTried, AreOut}
 use Rattle.router_core.specs.Notes.{given_up, spared, value_noted, kept_after}
+use Rattle.router_core.specs.StoredAnswers.{answer_of, HoldsAnswers}
 use Rattle.router_core.proofs.Answering.{answer_keeps}
 use Rattle.router_core.proofs.Applying.{newest_with, hold_requests, tried_taken}
 use Rattle.router_core.proofs.Coming.{IsFrame, Comes, sound_part}
 use Rattle.router_core.proofs.Effects.{waiting_request, tried_arrival, requests_tried, tried_ended, out_ended, hold_ended, hold_opened, out_on_is, loses_all, nowhere_else, nowhere_after_cut, hold_closed, hold_cut, out_arrival}
 use Rattle.router_core.proofs.FrameKeeping.{frame_keeps}
 use Rattle.router_core.proofs.Knowing.{SaysSame, said_settled, Sees}
+use Rattle.router_core.proofs.Naming.{resolved_keeps}
 use Rattle.router_core.proofs.Noting.{failures_with, failures_noted_are, fresh_alts, lost_live, live_noted}
+use Rattle.router_core.proofs.Resolving.{addresses_are, endpoints_are, answers_with, told_is}
 use Rattle.router_core.proofs.Returning.{AreRising, rise_part, rise_cut}
 use Rattle.router_core.proofs.SettlingSo.{Keeps, Asked, number_of, still_waiting, over_keeps}
 
@@ -66,6 +73,10 @@ tried_network j now (w ∷ ws) h = (h.0, tried_network j now ws h.1)
 tried_input : (j : Journal) (now c : ℕ) (bytes : List ℕ) (ws : List Waiting) → AreTried j ws → AreTried (Happened now (fact.Input c bytes) true ∷ j) ws
 tried_input j now c bytes [] h = tt
 tried_input j now c bytes (w ∷ ws) h = (h.0, tried_input j now c bytes ws h.1)
+
+tried_stats : (j : Journal) (now : ℕ) (ws : List Waiting) → AreTried j ws → AreTried (Happened now fact.Stats true ∷ j) ws
+tried_stats j now [] h = tt
+tried_stats j now (w ∷ ws) h = (h.0, tried_stats j now ws h.1)
 
 tried_who : (j : Journal) (now : ℕ) (o : Origin) (ws : List Waiting) → AreTried j ws → AreTried (Happened now (fact.Who o) true ∷ j) ws
 tried_who j now o [] h = tt
@@ -93,7 +104,8 @@ pub record Knows (course : Course) (j : Journal) : Type 0 where
   pub tried : AreTried j course.state.tables.requests.waiting
   pub outstanding : AreOut j course.state.tables.requests.outstanding
   pub alternatives : (o : Origin) (at : ℕ) → newest_moment j ≤ at → cache_live course.alternatives o at ≡ live j o at
-  pub failures : (o : Origin) (key : AltKey) → kept_failures course.broken o (Alt key) ≡ capped (failures j o (Alt key))
+  pub failures : (o : Origin) (r : Route) → is_direct r ≡ false → kept_failures course.broken o r ≡ capped (failures j o r)
+  pub answers : HoldsAnswers course.answers j
 
 handed_keeps : (course : Course) (j : Journal) (now : ℕ) (f : Fact) → course.state.actions ≡ [] → Knows course j → Sound j → AreRising (requests j) → newest_moment j ≤ now → refusal j now f ≡ None → Keeps (after_effect course now f) (with_fact j now f) (waiting (with_fact j now f))
 handed_keeps course j now (fact.Request n o) before knows sound rise later free = record {
@@ -144,7 +156,7 @@ handed_keeps course j now (fact.Closed c) before knows sound rise later free =
     }
 handed_keeps course j now (fact.Response q status age altsvc) before knows sound rise later free =
     let out : is_out (standing j q) ≡ true = answered_out j now q status age altsvc free in
-    answer_keeps course.state j now q status age altsvc before sound rise out knows.tables knows.waiting knows.tried knows.outstanding
+    answer_keeps (address_at course.answers now) course.state j now q status age altsvc (addresses_are course.answers j now knows.answers later) before sound rise out knows.tables knows.waiting knows.tried knows.outstanding
 handed_keeps course j now fact.Network before knows sound rise later free = record {
   tables = record { opened = knows.tables.opened; pending = knows.tables.pending; connections = knows.tables.connections };
   waiting = knows.waiting;
@@ -167,7 +179,15 @@ handed_keeps course j now (fact.Input c bytes) before knows sound rise later fre
   written = before;
 }
 handed_keeps course j now (fact.Delivered c head payload) before knows sound rise later free =
-    frame_keeps course.state j now c head payload true before sound knows.tables knows.waiting knows.tried knows.outstanding
+    frame_keeps (address_at course.answers now) course.state j now c head payload true (addresses_are course.answers j now knows.answers later) before sound knows.tables knows.waiting knows.tried knows.outstanding
+handed_keeps course j now (fact.Answer name ttl body) before knows sound rise later free = resolved_keeps course.state j now name ttl body before knows.tables knows.waiting knows.tried knows.outstanding
+handed_keeps course j now fact.Stats before knows sound rise later free = record {
+  tables = record { opened = knows.tables.opened; pending = knows.tables.pending; connections = knows.tables.connections };
+  waiting = knows.waiting;
+  tried = tried_stats j now course.state.tables.requests.waiting knows.tried;
+  outstanding = record { out = knows.outstanding.out; known = λ n x e. let was = knows.outstanding.known n x e in record { request = was.request; sent = was.sent; tried = was.tried } };
+  written = before;
+}
 handed_keeps course j now (fact.Who o) before knows sound rise later free = record {
   tables = record { opened = knows.tables.opened; pending = knows.tables.pending; connections = knows.tables.connections };
   waiting = knows.waiting;
@@ -180,12 +200,13 @@ handed_keeps course j now (fact.Who o) before knows sound rise later free = reco
 abbrev pub behind : Journal → ℕ → Fact → Bool → Journal
 behind j now f h = with_part j now (Happened now f h)
 
-frame_case : (course : Course) (j : Journal) (now : ℕ) (f : Fact) (h : Bool) → IsFrame f → course.state.actions ≡ newest_actions (Happened now f h ∷ j) → Knows course j → Sound j → Keeps (after_effect course now f) (behind j now f h) (waiting (behind j now f h))
-frame_case course j now (fact.Delivered c head payload) h is before knows sound = frame_keeps course.state j now c head payload h before sound knows.tables knows.waiting knows.tried knows.outstanding
-frame_case course j now _ h is before knows sound = absurd is
+frame_case : (course : Course) (j : Journal) (now : ℕ) (f : Fact) (h : Bool) → IsFrame f → course.state.actions ≡ newest_actions (Happened now f h ∷ j) → Knows course j → Sound j → newest_moment j ≤ now → Keeps (after_effect course now f) (behind j now f h) (waiting (behind j now f h))
+frame_case course j now (fact.Delivered c head payload) h is before knows sound later =
+    frame_keeps (address_at course.answers now) course.state j now c head payload h (addresses_are course.answers j now knows.answers later) before sound knows.tables knows.waiting knows.tried knows.outstanding
+frame_case course j now _ h is before knows sound later = absurd is
 
 pub fact_keeps : (course : Course) (j : Journal) (now : ℕ) (f : Fact) (h : Bool) → course.state.actions ≡ newest_actions (Happened now f h ∷ j) → Knows course j → Sound j → AreRising (requests j) → newest_moment j ≤ now → Comes j now f h → Keeps (after_effect course now f) (behind j now f h) (waiting (behind j now f h))
-fact_keeps course j now f h before knows sound rise later (inl frame) = frame_case course j now f h frame before knows sound
+fact_keeps course j now f h before knows sound rise later (inl frame) = frame_case course j now f h frame before knows sound later
 fact_keeps course j now f h before knows sound rise later (inr handed) =
     subst (λ b. course.state.actions ≡ newest_actions (Happened now f b ∷ j) → Keeps (after_effect course now f) (behind j now f b) (waiting (behind j now f b))) (sym handed.0)
     (λ begun. handed_keeps course j now f begun knows sound rise later handed.1) before
@@ -240,8 +261,14 @@ seen_live old new j now f h before knows sound comes later keeps becomes o at af
     ap (fresh_alts at) (becomes.alternatives o ∙ ap (λ as'. value_noted now (age_in f) as' o (spared (given_up old.state.tables f) o (kept_after f (kept old.alternatives o)))) (done_is old j now f h before keeps))
     ∙ live_noted old.state.tables j now f h o at (kept old.alternatives o) sound knows.tables knows.outstanding (answered_by_part j now f h comes) (knows.alternatives o at (omega (arith, later, after)))
 
-failures_known : (old new : Course) (j : Journal) (now : ℕ) (f : Fact) (h : Bool) → Knows old j → Becomes old new now f → (o : Origin) (key : AltKey) → kept_failures new.broken o (Alt key) ≡ capped (failures (behind j now f h) o (Alt key))
-failures_known old new j now f h knows becomes o key = becomes.failures o key ∙ failures_noted_are old.state.tables j now f h o (Alt key) (kept_failures old.broken o (Alt key)) knows.tables (knows.failures o key)
+failures_known : (old new : Course) (j : Journal) (now : ℕ) (f : Fact) (h : Bool) → Knows old j → Becomes old new now f → (o : Origin) (r : Route) → is_direct r ≡ false → kept_failures new.broken o r ≡ capped (failures (behind j now f h) o r)
+failures_known old new j now f h knows becomes o r other = becomes.failures o r other ∙ failures_noted_are old.state.tables j now f h o r (kept_failures old.broken o r) knows.tables (knows.failures o r other)
+
+-- a route is broken by what is kept of its failures where it is by all of them
+pub barred_as : (broken : Broken) (k : Journal) (o : Origin) (r : Route) (at : ℕ) → (is_direct r ≡ false → kept_failures broken o r ≡ capped (failures k o r)) → is_barred_by (kept_failures broken o r) r at ≡ is_broken k o r at
+barred_as broken k o Direct at failed = refl
+barred_as broken k o (Alt key) at failed = ap (λ fs. is_barred_by fs (Alt key) at) (failed refl) ∙ capped_barred (failures k o (Alt key)) (Alt key) at
+barred_as broken k o (Rec endpoint) at failed = ap (λ fs. is_barred_by fs (Rec endpoint) at) (failed refl) ∙ capped_barred (failures k o (Rec endpoint)) (Rec endpoint) at
 
 -- what is known once a part is settled
 pub record PartDone (course : Course) (k : Journal) : Type 0 where
@@ -251,12 +278,13 @@ pub record PartDone (course : Course) (k : Journal) : Type 0 where
   pub rise : AreRising (requests k)
 
 -- the tables that settling leaves, with what is known beside
-done_with : (course : Course) (s : StepState) (k : Journal) (now : ℕ) → Sound k → newest_moment k ≡ now → AreRising (requests k) → Keeps s k (waiting k) → course.state ≡ settled (look_of course.alternatives course.broken now) s →
-    ((o : Origin) (at : ℕ) → now ≤ at → cache_live course.alternatives o at ≡ live k o at) → ((o : Origin) (key : AltKey) → kept_failures course.broken o (Alt key) ≡ capped (failures k o (Alt key))) → PartDone course (journal_settled k now)
-done_with course s k now sound moment rise keeps state alternatives failed =
+done_with : (course : Course) (s : StepState) (k : Journal) (now : ℕ) → Sound k → newest_moment k ≡ now → AreRising (requests k) → Keeps s k (waiting k) → course.state ≡ settled (seen course now) s →
+    ((o : Origin) (at : ℕ) → now ≤ at → cache_live course.alternatives o at ≡ live k o at) → ((o : Origin) (r : Route) → is_direct r ≡ false → kept_failures course.broken o r ≡ capped (failures k o r)) →
+    ((name : NameOf) (kind : Kind) (at : ℕ) → now ≤ at → in_force at (kept_answer course.answers name kind) ≡ in_force at (answer_of k name kind)) → PartDone course (journal_settled k now)
+done_with course s k now sound moment rise keeps state alternatives failed resolved =
     let all = all_settled k now sound moment in
     let said : SaysSame k (journal_settled k now) = said_settled k now (waiting k) in
-    let done = subst (λ x. Keeps x (journal_settled k now) (waiting (journal_settled k now))) (sym state) (settle_keeps (look_of course.alternatives course.broken now) s k now sound moment keeps sees) in
+    let done = subst (λ x. Keeps x (journal_settled k now) (waiting (journal_settled k now))) (sym state) (settle_keeps (seen course now) s k now sound moment keeps sees) in
     record {
       knows = record {
         tables = done.tables;
@@ -264,19 +292,24 @@ done_with course s k now sound moment rise keeps state alternatives failed =
         tried = done.tried;
         outstanding = done.outstanding;
         alternatives = λ o at h. alternatives o at (omega (arith, all.quiet.moment_same, moment, h)) ∙ sym (said.live_same o at);
-        failures = λ o key. failed o key ∙ ap capped (sym (said.failures_same o (Alt key)));
+        failures = λ o r other. failed o r other ∙ ap capped (sym (said.failures_same o r));
+        answers = λ name kind at h. resolved name kind at (omega (arith, all.quiet.moment_same, moment, h)) ∙ sym (ap (in_force at) (said.answers_same name kind));
       };
       written = done.written;
       sound = all.sound;
       rise = subst AreRising (sym all.quiet.requests_same) rise;
     }
   where
-    sees : Sees (look_of course.alternatives course.broken now) k now
-    sees = record { live_seen = λ o. alternatives o now (omega arith); broken_seen = broken_now; address_seen = refl }
-      where
-        broken_now : (o : Origin) (r : Route) → is_barred_by (kept_failures course.broken o r) r now ≡ is_broken k o r now
-        broken_now o Direct = refl
-        broken_now o (Alt key) = ap (λ fs. is_barred_by fs (Alt key) now) (failed o key) ∙ capped_barred (failures k o (Alt key)) (Alt key) now
+    holds : HoldsAnswers course.answers k
+    holds = λ name kind at h. resolved name kind at (omega (arith, moment, h))
+
+    sees : Sees (seen course now) k now
+    sees = record {
+      live_seen = λ o. alternatives o now (omega arith);
+      broken_seen = λ o r. barred_as course.broken k o r now (failed o r);
+      address_seen = addresses_are course.answers k now holds (omega (arith, moment));
+      endpoints_seen = λ o. endpoints_are course.answers k now o holds (omega (arith, moment));
+    }
 
 pub part_done : (old new : Course) (j : Journal) (now : ℕ) (f : Fact) (h : Bool) → old.state.actions ≡ newest_actions (Happened now f h ∷ j) → Knows old j → Sound j → AreRising (requests j) → newest_moment j ≤ now → Comes j now f h → Becomes old new now f →
     PartDone new (journal_settled (behind j now f h) now)
@@ -285,6 +318,7 @@ part_done old new j now f h before knows sound rise later comes becomes =
     let begins = fact_keeps old j now f h before knows sound rise later comes in
     done_with new (after_effect old now f) (behind j now f h) now (done.sound (sound_part j now f h sound comes)) done.moment (rise_part j now f h sound comes rise) begins becomes.state
     (λ o at after. seen_live old new j now f h before knows sound comes later begins becomes o at after) (failures_known old new j now f h knows becomes)
+    (told_is old.answers new.answers j now f h (effects j now f) knows.answers later becomes.answers)
 
 -- a connection that is cut
 
@@ -318,9 +352,10 @@ cut_done old new j now c count knows before sound rise at open_now becomes =
     let done = effected (Cut now c count ∷ j) (cut_effects j c count) (tt, are_lost (outstanding j c)) in
     let begins = cut_keeps old.state j now c count before sound open_now knows.tables knows.waiting knows.tried knows.outstanding in
     done_with new (cut_so old.state c count) k now (done.sound (sound_cut j now c count (used_of j c open_now sound) sound)) done.moment (rise_cut j now c count rise) begins
-    (becomes.state ∙ (λ i. settled (look_of (sym becomes.alternatives i) (sym becomes.broken i) now) (cut_so old.state c count)))
+    (becomes.state ∙ (λ i. settled (look_of (sym becomes.alternatives i) (sym becomes.broken i) (sym becomes.answers i) now) (cut_so old.state c count)))
     (λ o t after. ap (λ cache. cache_live cache o t) becomes.alternatives ∙ knows.alternatives o t (omega (arith, at, after)) ∙ sym (lost_live begins_of (outstanding j c) o t))
-    (λ o key. ap (λ b. kept_failures b o (Alt key)) becomes.broken ∙ knows.failures o key ∙ ap capped (sym (failures_with begins_of (map Lost (outstanding j c)) o (Alt key))))
+    (λ o r other. ap (λ b. kept_failures b o r) becomes.broken ∙ knows.failures o r other ∙ ap capped (sym (failures_with begins_of (map Lost (outstanding j c)) o r)))
+    (λ name kind t after. ap (λ store. in_force t (kept_answer store name kind)) becomes.answers ∙ knows.answers name kind t (omega (arith, at, after)) ∙ sym (ap (in_force t) (answers_with begins_of (map Lost (outstanding j c)) name kind)))
   where
     begins_of : Journal
     begins_of = Taken (Close c count) ∷ Cut now c count ∷ j

@@ -263,9 +263,11 @@ readers_after rs rs' j now (fact.Closed c) conn frames w is free are brings = su
 readers_after rs rs' j now (fact.Response q status age altsvc) conn frames w is free are brings = still_read rs rs' j now (fact.Response q status age altsvc) brings.2 refl refl (λ n. refl) (λ n. refl) are
 readers_after rs rs' j now (fact.Input c bytes) conn frames w is free are brings = read_input rs rs' j now c bytes frames w free are brings.1
 readers_after rs rs' j now (fact.Delivered c head payload) conn frames w is free are brings = still_read rs rs' j now (fact.Delivered c head payload) brings.2 refl refl (λ n. refl) (λ n. refl) are
+readers_after rs rs' j now (fact.Answer name ttl body) conn frames w is free are brings = still_read rs rs' j now (fact.Answer name ttl body) brings.2 refl refl (λ n. refl) (λ n. refl) are
 readers_after rs rs' j now fact.Network conn frames w is free are brings = still_read rs rs' j now fact.Network brings.2 refl refl (λ n. refl) (λ n. refl) are
 readers_after rs rs' j now fact.Tick conn frames w is free are brings = still_read rs rs' j now fact.Tick brings.2 refl refl (λ n. refl) (λ n. refl) are
 readers_after rs rs' j now (fact.Who o) conn frames w is free are brings = still_read rs rs' j now (fact.Who o) brings.2 refl refl (λ n. refl) (λ n. refl) are
+readers_after rs rs' j now fact.Stats conn frames w is free are brings = still_read rs rs' j now fact.Stats brings.2 refl refl (λ n. refl) (λ n. refl) are
 
 -- the parts behind the fact are those that the readers brought
 
@@ -281,6 +283,8 @@ parts_are rs rs' j now (fact.Failed m) conn frames w free are brings = none_are 
 parts_are rs rs' j now (fact.Closed c) conn frames w free are brings = none_are now conn frames w brings.0 brings.1
 parts_are rs rs' j now (fact.Response q status age altsvc) conn frames w free are brings = none_are now conn frames w brings.0 brings.1
 parts_are rs rs' j now (fact.Delivered c head payload) conn frames w free are brings = none_are now conn frames w brings.0 brings.1
+parts_are rs rs' j now (fact.Answer name ttl body) conn frames w free are brings = none_are now conn frames w brings.0 brings.1
 parts_are rs rs' j now fact.Network conn frames w free are brings = none_are now conn frames w brings.0 brings.1
 parts_are rs rs' j now fact.Tick conn frames w free are brings = none_are now conn frames w brings.0 brings.1
 parts_are rs rs' j now (fact.Who o) conn frames w free are brings = none_are now conn frames w brings.0 brings.1
+parts_are rs rs' j now fact.Stats conn frames w free are brings = none_are now conn frames w brings.0 brings.1

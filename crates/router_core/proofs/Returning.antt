@@ -44,9 +44,11 @@ rise_fact j now (fact.Closed c) sound free rise = rise
 rise_fact j now (fact.Response q status age altsvc) sound free rise = rise
 rise_fact j now (fact.Input c bytes) sound free rise = rise
 rise_fact j now (fact.Delivered c head payload) sound free rise = rise
+rise_fact j now (fact.Answer name ttl body) sound free rise = rise
 rise_fact j now fact.Network sound free rise = rise
 rise_fact j now fact.Tick sound free rise = rise
 rise_fact j now (fact.Who o) sound free rise = rise
+rise_fact j now fact.Stats sound free rise = rise
 
 requests_with : (j : Journal) (as' : List Action) → requests (with_actions j as') ≡ requests j
 requests_with j [] = refl

@@ -82,9 +82,11 @@ fact_reason router j (fact.Closed c) stands = ap (λ b. cond b None (Some NoSuch
 fact_reason router j (fact.Response q status age altsvc) stands = ap (λ b. cond b None (Some NoSuchRequest)) (stands.outstanding.out q)
 fact_reason router j (fact.Input c bytes) stands = frame_reason_is router.tables j c stands.tables
 fact_reason router j (fact.Delivered c head payload) stands = frame_reason_is router.tables j c stands.tables
+fact_reason router j (fact.Answer name ttl body) stands = refl
 fact_reason router j fact.Network stands = refl
 fact_reason router j fact.Tick stands = refl
 fact_reason router j (fact.Who o) stands = refl
+fact_reason router j fact.Stats stands = refl
 
 pub reason_is : (router : Router) (j : Journal) (now : ℕ) (f : Fact) → StandsFor router j → reason_of router.facts router.last router.newest router.tables now f ≡ refusal j now f
 reason_is router j now f stands =

@@ -1,6 +1,7 @@
 -- What the effect of a fact makes of the state of a step.
-use Rattle.std.specs.Prelude.{ℕ, not, ◌&&◌, nat_eq, List, [], ◌∷◌, ◌++◌, Option, Some, None, if◌then◌else◌, map}
+use Rattle.std.specs.Prelude.{ℕ, Bool, not, ◌&&◌, nat_eq, List, [], ◌∷◌, ◌++◌, Option, Some, None, if◌then◌else◌, map}
 use Rattle.std.specs.Option.{option_map_or}
+use Rattle.alias_chain.specs.Walk.{NameOf}
 use Rattle.altsvc_grammar.specs.declared.alt.Alt.{Alt}
 use Rattle.coalescing.specs.declared.cert_name.CertName.{CertName}
 use Rattle.conn_states.specs.Changes.{with_answered}
@@ -8,8 +9,9 @@ use Rattle.conn_states.specs.Record.{Record}
 use Rattle.origin_values.specs.declared.address.Addr.{Addr}
 use Rattle.origin_values.specs.declared.origin.Origin.{Origin}
 use Rattle.origin_values.specs.declared.proto.Proto.{Proto}
+use Rattle.route_events.specs.declared.answer.AnswerBody.{AnswerBody}
 use Rattle.route_events.specs.declared.fact.Fact.{Fact}
-use Rattle.route_events.specs.declared.fact.Fact.TheVariants.{Request, Opened, Failed, Closed, Response, Input, Delivered, Network, Tick, Who}
+use Rattle.route_events.specs.declared.fact.Fact.TheVariants.{Request, Opened, Failed, Closed, Response, Input, Delivered, Answer, Network, Tick, Who, Stats}
 use Rattle.route_events.specs.declared.action.Action.{Action}
 use Rattle.route_events.specs.declared.action.Action.TheVariants.{Close, Lost, Field}
 use Rattle.route_events.specs.declared.attempt.Attempt.{Attempt}
@@ -17,6 +19,7 @@ use Rattle.route_events.specs.declared.connection.Connection.{Connection}
 use Rattle.route_events.specs.declared.request.Request.{Request as RequestValue}
 use Rattle.route_events.specs.Authority.{is_https, is_success, gives}
 use Rattle.route_events.specs.Advertisements.{value_taken, retries}
+use Rattle.route_events.specs.Answers.{malformed_effects}
 use Rattle.request_dispatch.specs.declared.outstanding.Outstanding.{Outstanding}
 use Rattle.request_dispatch.specs.declared.step_state.StepState.{StepState}
 use Rattle.request_dispatch.specs.AttemptTable.{attempt_among, without_attempt}
@@ -24,7 +27,6 @@ use Rattle.request_dispatch.specs.RequestTable as requests
 use Rattle.request_dispatch.specs.RequestTable.{RequestTable, request_among, after_end, lost, sent_back}
 use Rattle.request_dispatch.specs.ConnectionTable.{begun, connection_among, other_connections, out_on, misdirected_by}
 use Rattle.request_dispatch.specs.Carriers.{is_answered_by_authority}
-use Rattle.request_dispatch.specs.Looks.{no_address}
 use Rattle.router_core.specs.FrameEffects.{delivered_so}
 use Rattle.router_core.specs.Rebinding.{rebound_by}
 
@@ -78,21 +80,21 @@ arrived s number origin = record {
   actions = s.actions;
 }
 
--- what is done for the Alt-Svc of a response
-abbrev pub advertised : List Record → ℕ → RequestValue → List ℕ → Action
-advertised connections status q bytes =
+-- what is done for the Alt-Svc of a response, where these are the addresses of origins
+abbrev pub advertised : (Origin → Addr → Bool) → List Record → ℕ → RequestValue → List ℕ → Action
+advertised is_address connections status q bytes =
     if nat_eq status 421 then Field q.number 11 0
     else (if not (is_https q.origin.scheme) then Field q.number 12 0
-    else (if not (is_answered_by_authority no_address q.number q.origin connections) then Field q.number 13 0
+    else (if not (is_answered_by_authority is_address q.number q.origin connections) then Field q.number 13 0
     else value_taken q bytes))
 
-abbrev pub field_done : List Record → ℕ → Option (List ℕ) → Outstanding → List Action
-field_done connections status None x = []
-field_done connections status (Some bytes) x = advertised connections status x.request bytes ∷ []
+abbrev pub field_done : (Origin → Addr → Bool) → List Record → ℕ → Option (List ℕ) → Outstanding → List Action
+field_done is_address connections status None x = []
+field_done is_address connections status (Some bytes) x = advertised is_address connections status x.request bytes ∷ []
 
 -- the actions of a response: a request that was turned away is tried again, and then what is done for the Alt-Svc
-abbrev pub answer_done : List Record → ℕ → ℕ → Option (List ℕ) → Option Outstanding → List Action
-answer_done connections request status altsvc found = retries request status ++ option_map_or (field_done connections status altsvc) found []
+abbrev pub answer_done : (Origin → Addr → Bool) → List Record → ℕ → ℕ → Option (List ℕ) → Option Outstanding → List Action
+answer_done is_address connections request status altsvc found = retries request status ++ option_map_or (field_done is_address connections status altsvc) found []
 
 -- a connection whose server says that it isn't the origin's is misdirected for the request's origin (RFC 9110 15.5.20)
 abbrev pub misdirected_for : ℕ → ℕ → Option Outstanding → List Record → List Record
@@ -114,20 +116,26 @@ answered_so s request status found actions = record {
 }
 
 -- a request is answered
-abbrev pub answered : StepState → ℕ → ℕ → Option (List ℕ) → StepState
-answered s request status altsvc =
+abbrev pub answered : (Origin → Addr → Bool) → StepState → ℕ → ℕ → Option (List ℕ) → StepState
+answered is_address s request status altsvc =
     answered_so s request status (request_among s.tables.requests.outstanding request)
-    (answer_done s.tables.connections request status altsvc (request_among s.tables.requests.outstanding request))
+    (answer_done is_address s.tables.connections request status altsvc (request_among s.tables.requests.outstanding request))
 
--- the effect of a fact, where these alternatives are live
-abbrev pub with_effect : (Origin → List Alt) → StepState → Fact → StepState
-with_effect live s (Request number origin) = arrived s number origin
-with_effect live s (Opened attempt proto addr port names) = opened live s (attempt_among s.tables.attempts.pending attempt) proto addr port names
-with_effect live s (Failed attempt) = ended s (attempt_among s.tables.attempts.pending attempt)
-with_effect live s (Closed conn) = closed s conn
-with_effect live s (Response request status age altsvc) = answered s request status altsvc
-with_effect live s (Input conn bytes) = s
-with_effect live s (Delivered conn head payload) = delivered_so s conn head payload
-with_effect live s Network = s
-with_effect live s Tick = s
-with_effect live s (Who origin) = s
+-- a DNS answer comes: a malformed record is named
+abbrev pub resolved : StepState → NameOf → AnswerBody → StepState
+resolved s name body = record { tables = s.tables; actions = s.actions ++ malformed_effects name body }
+
+-- the effect of a fact, where these alternatives are live and these are the addresses of origins
+abbrev pub with_effect : (Origin → List Alt) → (Origin → Addr → Bool) → StepState → Fact → StepState
+with_effect live is_address s (Request number origin) = arrived s number origin
+with_effect live is_address s (Opened attempt proto addr port names) = opened live s (attempt_among s.tables.attempts.pending attempt) proto addr port names
+with_effect live is_address s (Failed attempt) = ended s (attempt_among s.tables.attempts.pending attempt)
+with_effect live is_address s (Closed conn) = closed s conn
+with_effect live is_address s (Response request status age altsvc) = answered is_address s request status altsvc
+with_effect live is_address s (Input conn bytes) = s
+with_effect live is_address s (Delivered conn head payload) = delivered_so is_address s conn head payload
+with_effect live is_address s (Answer name ttl body) = resolved s name body
+with_effect live is_address s Network = s
+with_effect live is_address s Tick = s
+with_effect live is_address s (Who origin) = s
+with_effect live is_address s Stats = s

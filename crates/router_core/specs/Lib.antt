@@ -1,6 +1,7 @@
 pub mod Holds
 pub mod Fitting
 pub mod Rebinding
+pub mod StoredAnswers
 pub mod FrameEffects
 pub mod Effects
 pub mod Notes

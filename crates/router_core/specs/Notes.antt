@@ -15,7 +15,7 @@ use Rattle.route_events.specs.declared.fact.Fact.TheVariants.{Opened, Failed, Ne
 use Rattle.route_events.specs.declared.action.Action.{Action}
 use Rattle.route_events.specs.declared.action.Action.TheVariants.{Alternatives}
 use Rattle.route_events.specs.declared.route.Route.{Route}
-use Rattle.route_events.specs.declared.route.Route.TheVariants.{Direct, Alt}
+use Rattle.route_events.specs.declared.route.Route.TheVariants.{Direct, Alt, Rec}
 use Rattle.route_events.specs.declared.attempt.Attempt.{Attempt}
 use Rattle.route_events.specs.Alternatives.{alternatives_of}
 use Rattle.route_events.specs.Misdirection.{turned_away_in}
@@ -56,6 +56,7 @@ value_noted now age _ o ks = ks
 abbrev pub key_of : Origin → Route → Option (Origin × AltKey)
 key_of o Direct = None
 key_of o (Alt key) = Some (o, key)
+key_of o (Rec endpoint) = None
 
 abbrev pub led_by : Origin → Record → Option (Origin × AltKey)
 led_by o c = if origin_eq c.made.origin o then key_of o c.made.route else None

@@ -3,7 +3,7 @@ use Rattle.std.specs.Prelude.{ℕ, nat_eq, nat_lt, Option, Some, None, is_some, 
 use Rattle.conn_states.specs.Record.{Record}
 use Rattle.route_events.specs.Connections.{is_h2}
 use Rattle.route_events.specs.declared.fact.Fact.{Fact}
-use Rattle.route_events.specs.declared.fact.Fact.TheVariants.{Request, Opened, Failed, Closed, Response, Input, Delivered, Network, Tick, Who}
+use Rattle.route_events.specs.declared.fact.Fact.TheVariants.{Request, Opened, Failed, Closed, Response, Input, Delivered, Answer, Network, Tick, Who, Stats}
 use Rattle.route_events.specs.declared.refusal.StepRefusal.{StepRefusal}
 use Rattle.route_events.specs.declared.refusal.StepRefusal.TheVariants.{Spent, TimeBack, NumberNotAbove, NoSuchAttempt, NoSuchConn, NotFramed, NoSuchRequest}
 use Rattle.request_dispatch.specs.declared.tables.Tables.{Tables}
@@ -29,9 +29,11 @@ reason_of_fact newest t (Closed conn) = if is_some (connection_among t.connectio
 reason_of_fact newest t (Response request status age altsvc) = if is_some (request_among t.requests.outstanding request) then None else Some NoSuchRequest
 reason_of_fact newest t (Input conn bytes) = frame_reason (connection_among t.connections conn)
 reason_of_fact newest t (Delivered conn head payload) = frame_reason (connection_among t.connections conn)
+reason_of_fact newest t (Answer name ttl body) = None
 reason_of_fact newest t Network = None
 reason_of_fact newest t Tick = None
 reason_of_fact newest t (Who origin) = None
+reason_of_fact newest t Stats = None
 
 abbrev pub reason_of : ℕ → ℕ → ℕ → Tables → ℕ → Fact → Option StepRefusal
 reason_of facts last newest t now fact =

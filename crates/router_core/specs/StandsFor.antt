@@ -1,7 +1,6 @@
 -- Which journals a router stands for: what it keeps is what the journal says. It keeps nothing else, so that a router
 -- may forget what no later step can ask for.
-use Rattle.std.specs.Prelude.{◌≡◌, ◌≤◌, ℕ, List, filter, Some, None}
-use Rattle.altsvc_grammar.specs.declared.alt_key.AltKey.{AltKey}
+use Rattle.std.specs.Prelude.{◌≡◌, ◌≤◌, ℕ, false, List, filter, Some, None}
 use Rattle.origin_values.specs.declared.origin.Origin.{Origin}
 use Rattle.network_cache.specs.Contents.{kept, live}
 use Rattle.network_cache.specs.Freshness.{is_fresh}
@@ -9,17 +8,18 @@ use Rattle.route_choice.specs.Capped.{capped}
 use Rattle.route_choice.specs.Contents.{kept_failures}
 use Rattle.route_events.specs.declared.fact.Fact.{Fact}
 use Rattle.route_events.specs.declared.action.Action.{Action}
-use Rattle.route_events.specs.declared.route.Route.TheVariants.{Alt}
+use Rattle.route_events.specs.declared.route.Route.{Route}
 use Rattle.route_events.specs.Journal.{Journal, step_count, newest_moment}
 use Rattle.route_events.specs.Requests.{newest_number, waiting}
 use Rattle.route_events.specs.Alternatives.{live as journal_live}
-use Rattle.route_events.specs.Backoff.{failures}
+use Rattle.route_events.specs.Backoff.{is_direct, failures}
 use Rattle.route_events.specs.Step.{IsRun, refusal, step, newest_actions}
 use Rattle.request_dispatch.specs.RequestTable.{requests_of}
 use Rattle.router_core.specs.declared.router.Router.{Router}
 use Rattle.router_core.specs.declared.fault.StepFault.{StepFault}
 use Rattle.router_core.specs.declared.fault.StepFault.TheVariants.{NoMemory, Refused}
 use Rattle.router_core.specs.Holds.{Hold, AreTried, AreOut, AreRead}
+use Rattle.router_core.specs.StoredAnswers.{HoldsAnswers, KeepsNoneEnded}
 
 pub record StandsFor (router : Router) (journal : Journal) : Type 0 where
   -- the journal is one that a run gives
@@ -40,7 +40,10 @@ pub record StandsFor (router : Router) (journal : Journal) : Type 0 where
   pub alternatives : (o : Origin) (now : ℕ) → newest_moment journal ≤ now → live router.alternatives o now ≡ journal_live journal o now
   pub none_ended : (o : Origin) → filter (is_fresh router.last) (kept router.alternatives o) ≡ kept router.alternatives o
   -- the failures of each origin's routes but the direct one, which no failure bars
-  pub failures : (o : Origin) (key : AltKey) → kept_failures router.broken o (Alt key) ≡ capped (failures journal o (Alt key))
+  pub failures : (o : Origin) (r : Route) → is_direct r ≡ false → kept_failures router.broken o r ≡ capped (failures journal o r)
+  -- at each moment from the newest on, the answers in force of each name and kind; none that has ended is kept
+  pub answers : HoldsAnswers router.answers journal
+  pub no_ended_answer : KeepsNoneEnded router.answers router.last
 
 -- the step isn't refused, and gives these actions and this router
 pub record Takes (new : Router) (actions : List Action) (journal : Journal) (now : ℕ) (fact : Fact) : Type 0 where

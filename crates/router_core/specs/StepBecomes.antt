@@ -1,5 +1,9 @@
 -- What a step makes of a router, by what it keeps: its parts, and what is answered behind them.
 use Rattle.std.specs.Prelude.{◌≡◌, ℕ, ◌+◌, false, nat_eq, List, [], ◌++◌, Option, Some, None, filter}
+use Rattle.alias_chain.specs.Held.{in_force}
+use Rattle.alias_chain.specs.Walk.{NameOf}
+use Rattle.answer_store.specs.Bodies.{Kind}
+use Rattle.answer_store.specs.Contents.{kept as kept_answer}
 use Rattle.frame_readers.specs.Readers.{Reads, reader_among, other_readers}
 use Rattle.frame_readers.specs.declared.readers.ReaderOf.{ReaderOf}
 use Rattle.h2_framing.specs.declared.frame.Frame.{Frame}
@@ -12,7 +16,7 @@ use Rattle.route_events.specs.declared.fact.Fact.{Fact}
 use Rattle.route_events.specs.declared.fact.Fact.TheVariants.{Closed, Input}
 use Rattle.router_core.specs.declared.course.Course.{Course}
 use Rattle.router_core.specs.declared.router.Router.{Router}
-use Rattle.router_core.specs.Asking.{asked_in, answered_for}
+use Rattle.router_core.specs.Asking.{asked_in, IsAnswered}
 use Rattle.router_core.specs.Becomes.{Follows}
 use Rattle.router_core.specs.Reasons.{newest_after}
 
@@ -34,10 +38,12 @@ abbrev pub course_of : Router → Course
 course_of router = record {
   state = record { tables = router.tables; actions = [] };
   alternatives = router.alternatives;
+  answers = router.answers;
   broken = router.broken;
 }
 
-pub record StepBecomes (old new : Router) (actions : List Action) (now : ℕ) (fact : Fact) : Type 0 where
+-- its parts, and what is kept of them
+pub record PartsBecome (old new : Router) (done : List Action) (now : ℕ) (fact : Fact) : Type 0 where
   pub facts : new.facts ≡ old.facts + 1
   pub last : new.last ≡ now
   pub newest : new.newest ≡ newest_after old.newest fact
@@ -50,6 +56,15 @@ pub record StepBecomes (old new : Router) (actions : List Action) (now : ℕ) (f
   pub follows : Follows (course_of old) ended now fact conn frames too_large
   -- and what is kept of it
   pub purged : (o : Origin) → kept new.alternatives o ≡ filter (is_fresh now) (kept ended.alternatives o)
+  pub purged_answers : (name : NameOf) (kind : Kind) → kept_answer new.answers name kind ≡ in_force now (kept_answer ended.answers name kind)
   pub broken : new.broken ≡ ended.broken
   pub tables : new.tables ≡ ended.state.tables
-  pub written : actions ≡ ended.state.actions ++ answered_for ended.state.tables (asked_in fact)
+  pub written : done ≡ ended.state.actions
+
+-- and what the fact asks is answered by what is kept
+pub record StepBecomes (old new : Router) (actions : List Action) (now : ℕ) (fact : Fact) : Type 0 where
+  pub done : List Action
+  pub parts : PartsBecome old new done now fact
+  pub answer : List Action
+  pub answered : IsAnswered new (asked_in fact) answer
+  pub written : actions ≡ done ++ answer

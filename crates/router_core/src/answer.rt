@@ -1,17 +1,21 @@
-ghost use Rattle.std.specs.Prelude.{◌≡◌, ◌∷◌, ◌++◌, [], IfOk, OnOk, map, nat_eq, if◌then◌else◌};
+ghost use Rattle.std.specs.Prelude.{◌≡◌, ◌≤◌, ◌∷◌, ◌++◌, [], IfOk, OnOk, map, nat_eq, if◌then◌else◌};
 ghost use Rattle.std.specs.Option.{option_copied, option_map_or};
 ghost use Rattle.altsvc_grammar.specs.ValueReading.{read_value};
 ghost use Rattle.route_events.specs.Advertisements.{value_of_reading, value_taken, retries};
+ghost use Rattle.answer_store.specs.Contents.{newest_moment};
+ghost use Rattle.request_dispatch.specs.Carriers.{is_answered_by_authority};
+ghost use Rattle.request_dispatch.specs.Looks.{address_at};
 ghost use Rattle.request_dispatch.specs.RequestTable.{request_among};
 ghost use Rattle.request_dispatch.specs.ConnectionTable.{misdirected_by};
 ghost use Rattle.router_core.specs.Effects.{advertised, field_done, answer_done, misdirected_for, after_answer, answered_so, answered};
 ghost use Rattle.router_core.specs.Rebinding.{rebound_by};
 
 use crate::misdirection::MISDIRECTED;
-use alt_base::{Bytes, Duplicate, ListOf, NoMemory, Refused};
+use alt_base::{Bytes, Duplicate, ListOf, Moment, NoMemory, Refused};
 use altsvc_grammar::{AltSvc, parse};
+use answer_store::AnswerStore;
 use origin_values::Origin;
-use request_dispatch::{Connections, Outstanding, Requests, StepState, is_secure};
+use request_dispatch::{Connections, OriginAddresses, Outstanding, Requests, StepState, is_secure};
 use route_events::{Action, Actions, Request};
 use std::alloc::Global;
 
@@ -50,15 +54,34 @@ fn read_field(alloc: Global, request: &Request, value: &[u8]) -> Result<Action, 
     }
 }
 
+// Whether a connection on which the request is outstanding is authoritative for its origin.
+fn is_answered_by_authority(
+    alloc: Global,
+    answers: &AnswerStore,
+    now: Moment,
+    connections: &Connections,
+    request: &Request,
+) -> Result<bool, NoMemory>
+    requires { newest_moment answers.now ≤ now.0 }
+    ensures { IfOk result (λ is. is ≡ is_answered_by_authority (address_at answers.now now.0) request.now.number request.now.origin connections.now) }
+{
+    let origin = request.origin.copy(alloc)?;
+    let addresses = OriginAddresses::begin(alloc, answers, now, origin)?;
+    Ok(connections.is_answered_by_authority(request.number, &addresses))
+}
+
 // What is done for the Alt-Svc of a response.
 fn advertised(
     alloc: Global,
+    answers: &AnswerStore,
+    now: Moment,
     connections: &Connections,
     status: u16,
     request: &Request,
     value: &[u8],
 ) -> Result<Action, NoMemory>
-    ensures { IfOk result (λ action. action ≡ advertised connections.now status request.now value.now) }
+    requires { newest_moment answers.now ≤ now.0 }
+    ensures { IfOk result (λ action. action ≡ advertised (address_at answers.now now.0) connections.now status request.now value.now) }
 {
     if status == MISDIRECTED {
         return Ok(ignored(request.number, 11));
@@ -66,7 +89,8 @@ fn advertised(
     if !is_secure(request.origin.scheme) {
         return Ok(ignored(request.number, 12));
     }
-    if !connections.is_answered_by_authority(request.number, &request.origin) {
+    let authorised = is_answered_by_authority(alloc, answers, now, connections, request)?;
+    if !authorised {
         return Ok(ignored(request.number, 13));
     }
     value_taken(alloc, request, value)
@@ -74,17 +98,21 @@ fn advertised(
 
 fn field_done(
     alloc: Global,
+    answers: &AnswerStore,
+    now: Moment,
     connections: &Connections,
     status: u16,
     altsvc: &Option<Bytes>,
     answered: &Outstanding,
 ) -> Result<Actions, NoMemory>
-    ensures { IfOk result (λ actions. actions ≡ field_done connections.now status altsvc.now answered.now) }
+    requires { newest_moment answers.now ≤ now.0 }
+    ensures { IfOk result (λ actions. actions ≡ field_done (address_at answers.now now.0) connections.now status altsvc.now answered.now) }
 {
     let mut actions = ListOf::new(alloc);
     if let Some(value) = altsvc {
         let request = &answered.request;
-        actions.push(advertised(alloc, connections, status, request, value.as_slice())?)?;
+        let value = value.as_slice();
+        actions.push(advertised(alloc, answers, now, connections, status, request, value)?)?;
     }
     Ok(actions)
 }
@@ -102,30 +130,39 @@ fn retries(alloc: Global, request: u32, status: u16) -> Result<Actions, NoMemory
 
 fn field_actions(
     alloc: Global,
+    answers: &AnswerStore,
+    now: Moment,
     state: &StepState,
     request: u32,
     status: u16,
     altsvc: &Option<Bytes>,
 ) -> Result<Actions, NoMemory>
-    ensures { IfOk result (λ actions. actions ≡ option_map_or (field_done state.now.tables.connections status altsvc.now) (request_among state.now.tables.requests.outstanding request) []) }
+    requires { newest_moment answers.now ≤ now.0 }
+    ensures { IfOk result (λ actions. actions ≡ option_map_or (field_done (address_at answers.now now.0) state.now.tables.connections status altsvc.now) (request_among state.now.tables.requests.outstanding request) []) }
 {
     match state.tables.requests.of_number(request) {
         None => Ok(ListOf::new(alloc)),
-        Some(found) => field_done(alloc, &state.tables.connections, status, altsvc, found),
+        Some(found) => {
+            let connections = &state.tables.connections;
+            field_done(alloc, answers, now, connections, status, altsvc, found)
+        }
     }
 }
 
 fn answer_actions(
     alloc: Global,
+    answers: &AnswerStore,
+    now: Moment,
     state: &StepState,
     request: u32,
     status: u16,
     altsvc: &Option<Bytes>,
 ) -> Result<Actions, NoMemory>
-    ensures { IfOk result (λ actions. actions ≡ answer_done state.now.tables.connections request status altsvc.now (request_among state.now.tables.requests.outstanding request)) }
+    requires { newest_moment answers.now ≤ now.0 }
+    ensures { IfOk result (λ actions. actions ≡ answer_done (address_at answers.now now.0) state.now.tables.connections request status altsvc.now (request_among state.now.tables.requests.outstanding request)) }
 {
     let mut actions = retries(alloc, request, status)?;
-    let field = field_actions(alloc, state, request, status, altsvc)?;
+    let field = field_actions(alloc, answers, now, state, request, status, altsvc)?;
     append_actions(&mut actions, field)?;
     Ok(actions)
 }
@@ -200,14 +237,17 @@ pub(crate) fn append_actions(actions: &mut Actions, more: Actions) -> Result<(),
 /// turned away, it waits again, and its connection is misdirected for its origin.
 pub(crate) fn answer(
     alloc: Global,
+    answers: &AnswerStore,
+    now: Moment,
     state: &mut StepState,
     request: u32,
     status: u16,
     altsvc: Option<Bytes>,
 ) -> Result<(), NoMemory>
-    ensures { OnOk result (state.new ≡ answered state.old request status altsvc) }
+    requires { newest_moment answers.now ≤ now.0 }
+    ensures { OnOk result (state.new ≡ answered (address_at answers.now now.0) state.old request status altsvc) }
 {
-    let actions = answer_actions(alloc, state, request, status, &altsvc)?;
+    let actions = answer_actions(alloc, answers, now, state, request, status, &altsvc)?;
     let found = state.tables.requests.of_number(request);
     misdirect(found, &mut state.tables.connections, request, status)?;
     state.tables.connections.note_answer(request);

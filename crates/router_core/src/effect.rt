@@ -1,14 +1,20 @@
-ghost use Rattle.std.specs.Prelude.{◌≡◌, ◌≤◌, ◌++◌, map, OnOk};
+ghost use Rattle.std.specs.Prelude.{◌≡◌, ◌≤◌, ◌++◌, ℕ, List, map, OnOk};
+ghost use Rattle.answer_store.specs.Bodies.{Kind};
+ghost use Rattle.answer_store.specs.Contents.{kept as kept_answer, newest_moment as newest_answer};
 ghost use Rattle.network_cache.specs.Contents.{newest_moment};
 ghost use Rattle.route_events.specs.declared.action.Action.TheVariants.{Lost as LostAction};
+ghost use Rattle.route_events.specs.Answers.{answer_after};
 ghost use Rattle.request_dispatch.specs.AttemptTable.{attempt_among};
-ghost use Rattle.request_dispatch.specs.Looks.{live_at};
+ghost use Rattle.request_dispatch.specs.Looks.{live_at, address_at};
 ghost use Rattle.router_core.specs.Fitting.{IsFit};
 ghost use Rattle.router_core.specs.Effects.{arrived, ended, opened, closed, cut_so, with_effect, with_end, with_connection};
+ghost use Rattle.router_core.specs.StoredAnswers.{brought};
 
 use crate::answer::answer;
+use crate::dns_answer::take_answer;
 use crate::frame::deliver;
 use alt_base::{Duplicate, Moment, NoMemory};
+use answer_store::AnswerStore;
 use coalescing::CertNames;
 use network_cache::Cache;
 use origin_values::{Addr, Origin, Proto};
@@ -126,17 +132,21 @@ pub(crate) fn cut_off(
     close(alloc, state, conn)
 }
 
-/// The effect of a fact.
+/// The effect of a fact, on the state and on the answers of DNS.
 pub(crate) fn take_fact(
     alloc: Global,
     cache: &Cache,
+    answers: &mut AnswerStore,
     now: Moment,
     state: &mut StepState,
     fact: Fact,
 ) -> Result<(), NoMemory>
     requires known { newest_moment cache.now ≤ now.0 }
+    requires answered { newest_answer answers.old ≤ now.0 }
     requires fit { IsFit fact }
-    ensures { OnOk result (state.new ≡ with_effect (live_at cache.now now.0) state.old fact) }
+    ensures state { OnOk result (state.new ≡ with_effect (live_at cache.now now.0) (address_at answers.old now.0) state.old fact) }
+    ensures answers { OnOk result ((q : List (List ℕ)) (k : Kind) → kept_answer answers.new q k ≡ answer_after (brought k) q now.0 fact (kept_answer answers.old q k)) }
+    ensures moment { OnOk result (newest_answer answers.new ≤ now.0) }
 {
     match fact {
         Fact::Request { number, origin } => arrive(alloc, state, number, origin),
@@ -166,12 +176,25 @@ pub(crate) fn take_fact(
             status,
             age: _,
             altsvc,
-        } => answer(alloc, state, request, status, altsvc),
+        } => answer(alloc, answers, now, state, request, status, altsvc),
         Fact::Delivered {
             conn,
             head,
             payload,
-        } => deliver(alloc, state, conn, head, payload.as_slice()),
-        Fact::Input { .. } | Fact::Network | Fact::Tick | Fact::Who { .. } => Ok(()),
+        } => deliver(alloc, answers, now, state, conn, head, payload.as_slice()),
+        Fact::Answer { name, ttl, body } => take_answer(
+            alloc,
+            answers,
+            &mut state.actions,
+            now,
+            name,
+            ttl,
+            body,
+        ),
+        Fact::Network => {
+            answers.network();
+            Ok(())
+        }
+        Fact::Input { .. } | Fact::Tick | Fact::Who { .. } | Fact::Stats => Ok(()),
     }
 }

@@ -3,6 +3,7 @@
 
 mod answer;
 mod course;
+mod dns_answer;
 mod effect;
 mod fault;
 mod frame;

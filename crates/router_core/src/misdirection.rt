@@ -46,7 +46,7 @@ fn key_of(
     ensures { IfOk result (λ led. led ≡ key_of origin.now route.now) }
 {
     match route {
-        Route::Direct => Ok(None),
+        Route::Direct | Route::Rec(_) => Ok(None),
         Route::Alt(key) => Ok(Some((origin.copy(alloc)?, key.copy(alloc)?))),
     }
 }

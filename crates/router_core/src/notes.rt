@@ -1,12 +1,12 @@
-ghost use Rattle.std.specs.Prelude.{◌≡◌, ◌≤◌, OnOk, if◌then◌else◌, filter};
+ghost use Rattle.std.specs.Prelude.{◌≡◌, ◌≤◌, false, OnOk, if◌then◌else◌, filter};
 ghost use Rattle.network_cache.specs.Freshness.{persists};
 ghost use Rattle.std.specs.Option.{option_copied};
 ghost use Rattle.origin_values.specs.declared.origin.Origin.{Origin as OriginValue};
 ghost use Rattle.network_cache.specs.Contents.{kept, newest_moment};
 ghost use Rattle.route_choice.specs.Contents.{kept_failures, newest_moment as newest_failure};
 ghost use Rattle.route_events.specs.Alternatives.{age_in};
-ghost use Rattle.altsvc_grammar.specs.declared.alt_key.AltKey.{AltKey as AltKeyValue};
-ghost use Rattle.route_events.specs.declared.route.Route.TheVariants.{Alt as AltRoute};
+ghost use Rattle.route_events.specs.declared.route.Route.{Route as RouteValue};
+ghost use Rattle.route_events.specs.Backoff.{is_direct};
 ghost use Rattle.router_core.specs.Notes.{end_noted, failure_noted, opening_noted, failures_noted, value_noted, is_change};
 
 use alt_base::{Duplicate, Moment, NoMemory};
@@ -30,14 +30,14 @@ pub(crate) fn age_in(fact: &Fact) -> u32
 }
 
 // One more failure of an origin's route, or none any more.
-fn note_end_by_alternative(
+fn note_end_by_other(
     broken: &mut Broken,
     now: Moment,
     attempt: &Attempt,
     success: bool,
 ) -> Result<(), NoMemory>
     requires { newest_failure broken.old ≤ now.0 }
-    ensures failures { OnOk result ((o : OriginValue) (key : AltKeyValue) → kept_failures broken.new o (AltRoute key) ≡ end_noted now.0 success attempt.now o (AltRoute key) (kept_failures broken.old o (AltRoute key))) }
+    ensures failures { OnOk result ((o : OriginValue) (r : RouteValue) → is_direct r ≡ false → kept_failures broken.new o r ≡ end_noted now.0 success attempt.now o r (kept_failures broken.old o r)) }
     ensures moment { OnOk result (newest_failure broken.new ≤ now.0) }
 {
     if success {
@@ -55,12 +55,12 @@ fn note_end(
     success: bool,
 ) -> Result<(), NoMemory>
     requires { newest_failure broken.old ≤ now.0 }
-    ensures failures { OnOk result ((o : OriginValue) (key : AltKeyValue) → kept_failures broken.new o (AltRoute key) ≡ end_noted now.0 success attempt.now o (AltRoute key) (kept_failures broken.old o (AltRoute key))) }
+    ensures failures { OnOk result ((o : OriginValue) (r : RouteValue) → is_direct r ≡ false → kept_failures broken.new o r ≡ end_noted now.0 success attempt.now o r (kept_failures broken.old o r)) }
     ensures moment { OnOk result (newest_failure broken.new ≤ now.0) }
 {
     match &attempt.route {
         Route::Direct => Ok(()),
-        Route::Alt(_) => note_end_by_alternative(broken, now, attempt, success),
+        Route::Alt(_) | Route::Rec(_) => note_end_by_other(broken, now, attempt, success),
     }
 }
 
@@ -72,7 +72,7 @@ fn note_opening(
     names: &CertNames,
 ) -> Result<(), NoMemory>
     requires { newest_failure broken.old ≤ now.0 }
-    ensures failures { OnOk result ((o : OriginValue) (key : AltKeyValue) → kept_failures broken.new o (AltRoute key) ≡ opening_noted now.0 (option_copied attempt.entry) proto names.now o (AltRoute key) (kept_failures broken.old o (AltRoute key))) }
+    ensures failures { OnOk result ((o : OriginValue) (r : RouteValue) → is_direct r ≡ false → kept_failures broken.new o r ≡ opening_noted now.0 (option_copied attempt.entry) proto names.now o r (kept_failures broken.old o r)) }
     ensures moment { OnOk result (newest_failure broken.new ≤ now.0) }
 {
     match attempt {
@@ -88,7 +88,7 @@ fn note_opening(
 
 fn note_failure(broken: &mut Broken, now: Moment, attempt: Option<&Attempt>) -> Result<(), NoMemory>
     requires { newest_failure broken.old ≤ now.0 }
-    ensures failures { OnOk result ((o : OriginValue) (key : AltKeyValue) → kept_failures broken.new o (AltRoute key) ≡ failure_noted now.0 (option_copied attempt.entry) o (AltRoute key) (kept_failures broken.old o (AltRoute key))) }
+    ensures failures { OnOk result ((o : OriginValue) (r : RouteValue) → is_direct r ≡ false → kept_failures broken.new o r ≡ failure_noted now.0 (option_copied attempt.entry) o r (kept_failures broken.old o r)) }
     ensures moment { OnOk result (newest_failure broken.new ≤ now.0) }
 {
     match attempt {
@@ -105,7 +105,7 @@ pub(crate) fn note_failures(
     fact: &Fact,
 ) -> Result<(), NoMemory>
     requires { newest_failure broken.old ≤ now.0 }
-    ensures failures { OnOk result ((o : OriginValue) (key : AltKeyValue) → kept_failures broken.new o (AltRoute key) ≡ failures_noted attempts.now.pending now.0 fact.now o (AltRoute key) (kept_failures broken.old o (AltRoute key))) }
+    ensures failures { OnOk result ((o : OriginValue) (r : RouteValue) → is_direct r ≡ false → kept_failures broken.new o r ≡ failures_noted attempts.now.pending now.0 fact.now o r (kept_failures broken.old o r)) }
     ensures moment { OnOk result (newest_failure broken.new ≤ now.0) }
 {
     match fact {

@@ -68,8 +68,10 @@ pub(crate) fn read_octets(
         | Fact::Failed { .. }
         | Fact::Response { .. }
         | Fact::Delivered { .. }
+        | Fact::Answer { .. }
         | Fact::Network
         | Fact::Tick
-        | Fact::Who { .. } => Ok(nothing(alloc)),
+        | Fact::Who { .. }
+        | Fact::Stats => Ok(nothing(alloc)),
     }
 }

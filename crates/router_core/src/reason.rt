@@ -89,7 +89,7 @@ fn reason_of_fact(newest: u32, tables: &Tables, fact: &Fact) -> Option<StepRefus
         Fact::Input { conn, .. } | Fact::Delivered { conn, .. } => {
             frame_reason(tables.connections.of_number(*conn))
         }
-        Fact::Network | Fact::Tick | Fact::Who { .. } => None,
+        Fact::Answer { .. } | Fact::Network | Fact::Tick | Fact::Who { .. } | Fact::Stats => None,
     }
 }
 

@@ -1,54 +1,29 @@
-use Rattle.std.proofs.Common.{◌≡◌, ◌++◌, refl, ◌∙◌, subst, arith}
-use Rattle.router_core.specs.declared.course.Course.{Course}
-use Rattle.router_core.specs.Asking.{answered_for}
-use Rattle.router_core.specs.Becomes.{Follows}
-use Rattle.router_core.specs.StepBecomes.{course_of}
-use Rattle.router_core.proofs.Bounds.{leaves_room, not_spent, step_within}
+use Rattle.std.proofs.Common.{◌≡◌, Option, Result, Ok, Err, IfErr, IsErrAnd, subst}
+use Rattle.router_core.specs.declared.fault.StepFault.{StepFault}
+use Rattle.router_core.specs.declared.fault.StepFault.TheVariants.{NoMemory}
+use Rattle.router_core.specs.declared.question.Question.{Question}
+use Rattle.router_core.specs.Asking.{IsAnswered}
 use Rattle.router_core.proofs.router.Router.take.Goals as goal
 
-pub follow-requires-clause-sends : goal.follow-requires-clause-sends
-follow-requires-clause-sends c =
-    let room = not_spent c.args.self.facts c.args.self.last c.args.self.newest c.args.self.tables c.args.now.0 c.args.fact c.args.self.bounded c.requires.free in
-    leaves_room c.begin-begun.result c.args.self.tables c.args.self.facts c.args.fact c.begin-begun.ensures.tables c.args.self.few_sends room
-
-pub invariant_of-result-clause-bounded : goal.invariant_of-result-clause-bounded
-invariant_of-result-clause-bounded c =
-    let room = not_spent c.args.self.facts c.args.self.last c.args.self.newest c.args.self.tables c.args.now.0 c.args.fact c.args.self.bounded c.requires.free in
-    omega (arith, room)
-
-pub invariant_of-result-clause-few_sends : goal.invariant_of-result-clause-few_sends
-invariant_of-result-clause-few_sends c =
-    let room = not_spent c.args.self.facts c.args.self.last c.args.self.newest c.args.self.tables c.args.now.0 c.args.fact c.args.self.bounded c.requires.free in
-    let within = step_within c.begin-begun.result c.in_ok-state.field-0 c.args.self.tables c.args.self.facts c.args.now.0 c.args.fact c.in_ok-octets.octets.conn c.in_ok-octets.octets.frames c.in_ok-octets.octets.too_large
-    c.begin-begun.ensures.tables c.args.self.few_sends room c.in_ok-state.ensures.follows c.in_ok-octets.ensures.few in
-    within.sends
-
-pub invariant_of-result-clause-few_attempts : goal.invariant_of-result-clause-few_attempts
-invariant_of-result-clause-few_attempts c =
-    let room = not_spent c.args.self.facts c.args.self.last c.args.self.newest c.args.self.tables c.args.now.0 c.args.fact c.args.self.bounded c.requires.free in
-    let within = step_within c.begin-begun.result c.in_ok-state.field-0 c.args.self.tables c.args.self.facts c.args.now.0 c.args.fact c.in_ok-octets.octets.conn c.in_ok-octets.octets.frames c.in_ok-octets.octets.too_large
-    c.begin-begun.ensures.tables c.args.self.few_sends room c.in_ok-state.ensures.follows c.in_ok-octets.ensures.few in
-    omega (arith, within.opened, c.args.self.few_attempts)
-
 pub returns-clause-ok : goal.returns-clause-ok
-returns-clause-ok c =
-    let begun : c.begin-begun.result ≡ course_of c.args.self = λ i. record {
-      state = record { tables = c.begin-begun.ensures.tables i; actions = c.begin-begun.ensures.actions i };
-      alternatives = c.begin-begun.ensures.alternatives i;
-      broken = c.begin-begun.ensures.broken i;
-    } in
-    record {
-      facts = refl;
-      last = refl;
-      newest = c.newest_after-newest.ensures;
-      conn = c.in_ok-octets.octets.conn;
-      frames = c.in_ok-octets.octets.frames;
-      too_large = c.in_ok-octets.octets.too_large;
-      brought = c.in_ok-octets.ensures.brought;
-      ended = c.in_ok-state.field-0;
-      follows = subst (λ (course : Course). Follows course c.in_ok-state.field-0 c.args.now.0 c.args.fact c.in_ok-octets.octets.conn c.in_ok-octets.octets.frames c.in_ok-octets.octets.too_large) begun c.in_ok-state.ensures.follows;
-      purged = λ o. c.purge.ensures.fresh o;
-      broken = refl;
-      tables = refl;
-      written = c.in_ok-answer_question.ensures ∙ (λ i. c.in_ok-state.field-0.state.actions ++ answered_for c.in_ok-state.field-0.state.tables (c.in_ok-asked.ensures i));
-    }
+returns-clause-ok c = record {
+  done = c.in_ok-router.actions;
+  parts = c.in_ok-router.ensures;
+  answer = c.in_ok-answer.answer;
+  answered = subst (λ (asked : Option Question). IsAnswered c.in_ok-router.router asked c.in_ok-answer.answer) c.in_ok-asked.ensures c.in_ok-answer.ensures;
+  written = c.in_ok-append_actions.ensures;
+}
+
+-- a fault that comes of want of memory
+of_memory : {T : Type 0} (r : Result T StepFault) → IsErrAnd r (λ fault. fault ≡ NoMemory) → IfErr r (λ fault. fault ≡ NoMemory)
+of_memory (Ok taken) is = tt
+of_memory (Err fault) is = is
+
+pub returns-in_err-asked-clause-err : goal.returns-in_err-asked-clause-err
+returns-in_err-asked-clause-err c = of_memory c.from_residual.result c.from_residual.ensures.1
+
+pub returns-in_err-answer-clause-err : goal.returns-in_err-answer-clause-err
+returns-in_err-answer-clause-err c = of_memory c.from_residual-in_err-answer.result c.from_residual-in_err-answer.ensures.1
+
+pub returns-in_err-append_actions-clause-err : goal.returns-in_err-append_actions-clause-err
+returns-in_err-append_actions-clause-err c = of_memory c.from_residual-in_err-append_actions.result c.from_residual-in_err-append_actions.ensures.1
