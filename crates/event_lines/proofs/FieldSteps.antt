@@ -156,13 +156,13 @@ next_step so_far added count place n rest field few is within read more adds =
     ∙ ap (λ r. read_on r (count + 1) (place + (n + 1)) (field_texts (take (length behind - 1) (drop 1 behind)))) (sym adds)
 
 -- a refusal at the place is the reading's
-pub bad_at : (e : Refused LineRefusal) (at : At LineRefusal) (place : ℕ) (reading : Replied) → e ≡ refusal.At at.place at.reason → at ≡ record { place = place; reason = BadField }
+pub bad_at : {A : Type 0} (e : Refused LineRefusal) (at : At LineRefusal) (place : ℕ) (reading : Result A (At LineRefusal)) → e ≡ refusal.At at.place at.reason → at ≡ record { place = place; reason = BadField }
     → reading ≡ refused place BadField → MayGive (Err e) reading
-bad_at refusal.NoMemory at place reading h is k = tt
-bad_at (refusal.At p reason) at place reading h is k =
+bad_at {A} refusal.NoMemory at place reading h is k = tt
+bad_at {A} (refusal.At p reason) at place reading h is k =
     let same_place : place ≡ p = cc in
     let same_reason : BadField ≡ reason = cc in
-    k ∙ ap (λ (n : ℕ). let r : Replied = refused n BadField in r) same_place ∙ ap (λ (w : LineRefusal). let r : Replied = refused p w in r) same_reason
+    k ∙ ap (λ (n : ℕ). let r : Result A (At LineRefusal) = refused n BadField in r) same_place ∙ ap (λ (w : LineRefusal). let r : Result A (At LineRefusal) = refused p w in r) same_reason
 
 -- what is left ends within the line
 pub small_step : (place n : ℕ) (rest : List ℕ) → place + length rest < 2 ^ 32 → n ≤ length rest → 1 ≤ length (take (length rest - n) (drop n rest))

@@ -1,6 +1,6 @@
--- No space stands in the texts of numbers, addresses, names, origins and octets.
-use Rattle.std.proofs.Common.{◌≡◌, ℕ, ◌+◌, ◌<◌, ◌≤◌, ◌^◌, Bool, true, false, cond, not, ◌&&◌, nat_eq, nat_lt, List, [], ◌∷◌, ◌++◌, decimal, codes, Option, Some, is_some, refl, ap, sym, ◌∙◌, subst, arith, inl, inr}
-use Rattle.std.specs.Char.{is_ascii_digit, digit_value}
+-- No space stands in the texts of numbers, addresses, names, origins, octets and names of DNS.
+use Rattle.std.proofs.Common.{◌≡◌, ◌⊎◌, ℕ, ◌+◌, ◌<◌, ◌≤◌, ◌^◌, Bool, true, false, cond, not, ◌&&◌, nat_eq, nat_lt, List, [], ◌∷◌, ◌++◌, decimal, codes, Option, Some, is_some, refl, ap, sym, ◌∙◌, subst, arith, inl, inr}
+use Rattle.std.specs.Char.{is_ascii_digit, is_ascii_graphic, digit_value}
 use Rattle.std.specs.Str.Parse.{AllDigits}
 use Rattle.std.specs.Net.Grammar.{IsDotted, IsColonHex, IsGroupsAfter}
 use Rattle.std.proofs.lemmas.Fmt.{decimal_is_IsNumeral}
@@ -8,6 +8,8 @@ use Rattle.std.proofs.lemmas.List.Folds.{list_all-append}
 use Rattle.std.proofs.lemmas.Bool.{and_from}
 use Rattle.alt_base.proofs.Numbers.{lt_true, true_eq}
 use Rattle.alt_base.specs.Classes.{in_ranges, host_name_class}
+use Rattle.dns_names.specs.TextGrammar.{SpellsText}
+use Rattle.dns_names.specs.TextParts.{Part, Raw, Quoted, Decimal, part_text, parts_text, IsPart, AreParts, dotted, AreAllParts}
 use Rattle.origin_values.specs.DefaultPort.{default_port_of}
 use Rattle.origin_values.specs.HostGrammar.{SpellsName, SpellsAddr, SpellsHost}
 use Rattle.origin_values.specs.HostReading.{are_labels}
@@ -162,3 +164,33 @@ hex_digits_inner (high ∷ low ∷ digits) (octet ∷ octets) s =
 
 pub octets_inner : (octets : List ℕ) → IsBytes octets → IsInner (encode_lower octets)
 octets_inner octets h = hex_digits_inner (encode_lower octets) octets (hex_spelled (encode_lower octets) octets (decode_of-encode_lower octets h))
+
+shown_inner : (b : ℕ) → is_ascii_graphic b ≡ true → IsInner (b ∷ [])
+shown_inner b h = and_from (is_inner b) true (inner_from is_ascii_graphic refl b h) refl
+
+digit_inner : (b : ℕ) → is_ascii_digit b ≡ true → IsInner (b ∷ [])
+digit_inner b h = and_from (is_inner b) true (inner_from is_ascii_digit refl b h) refl
+
+part_inner : (part : Part) → IsPart part → IsInner (part_text part)
+part_inner (Raw b) h = shown_inner b h.0
+part_inner (Quoted b) h = inner_append (92 ∷ []) (b ∷ []) refl (shown_inner b h.0)
+part_inner (Decimal a b c) h =
+    inner_append (92 ∷ []) (a ∷ b ∷ c ∷ []) refl (inner_append (a ∷ []) (b ∷ c ∷ []) (digit_inner a h.0) (inner_append (b ∷ []) (c ∷ []) (digit_inner b h.1) (digit_inner c h.2)))
+
+parts_inner : (parts : List Part) → AreParts parts → IsInner (parts_text parts)
+parts_inner [] h = refl
+parts_inner (part ∷ parts) h = inner_append (part_text part) (parts_text parts) (part_inner part h.0) (parts_inner parts h.1)
+
+labels_text_inner : (labels : List (List Part)) → AreAllParts labels → IsInner (dotted labels)
+labels_text_inner [] h = refl
+labels_text_inner (parts ∷ labels) h = inner_append (parts_text parts) (46 ∷ dotted labels) (parts_inner parts h.0) (labels_text_inner labels h.1)
+
+end_inner : (end : List ℕ) → (end ≡ []) ⊎ (end ≡ 46 ∷ []) → IsInner end
+end_inner end (inl none) = subst IsInner (sym none) refl
+end_inner end (inr dot) = subst IsInner (sym dot) refl
+
+pub dns_name_inner : (text : List ℕ) (name : List (List ℕ)) → SpellsText text name → IsInner text
+dns_name_inner text name (inl h) = subst IsInner (sym h.0) refl
+dns_name_inner text name (inr s) =
+    subst IsInner (sym s.text)
+    (inner_append (dotted s.labels) (parts_text s.last ++ s.end) (labels_text_inner s.labels s.valid) (inner_append (parts_text s.last) s.end (parts_inner s.last s.last_valid) (end_inner s.end s.final_dot)))

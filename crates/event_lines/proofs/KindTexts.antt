@@ -7,11 +7,11 @@ use Rattle.origin_values.specs.declared.origin.Origin.{Origin}
 use Rattle.origin_values.specs.declared.proto.Proto.{Proto}
 use Rattle.origin_values.proofs.Addresses.{read_addr_sound}
 use Rattle.coalescing.specs.declared.cert_name.CertName.{CertName}
-use Rattle.route_events.specs.declared.fact.Fact.TheVariants.{Request, Opened, Failed, Closed, Response, Input, Network, Tick, Who}
+use Rattle.route_events.specs.declared.fact.Fact.TheVariants.{Request, Opened, Failed, Closed, Response, Input, Network, Tick, Who, Stats}
 use Rattle.event_lines.specs.Fields.{number_of, port_of, proto_of, origin_of, names_of, octets_of}
 use Rattle.event_lines.specs.Limits.{most_short, most_long}
-use Rattle.event_lines.specs.Parts.{Part, Reading, ◌>>=◌, next_word, value_or, field, refused}
-use Rattle.event_lines.specs.LineReading.{request_fields, opened_fields, failed_fields, closed_fields, response_fields, input_fields, who_fields, kind_reading}
+use Rattle.event_lines.specs.Parts.{Part, Reading, ◌>>=◌, field, refused}
+use Rattle.event_lines.specs.LineReading.{request_fields, opened_fields, failed_fields, closed_fields, response_fields, input_fields, answer_fields, who_fields, kind_reading}
 use Rattle.event_lines.specs.ResponseGrammar.{Field, SpellFields, tabbed, most_fields, altsvc_of}
 use Rattle.event_lines.specs.ResponseReading.{status_reading, reply_reading, age_of}
 use Rattle.event_lines.specs.declared.response.Reply.{Reply}
@@ -19,67 +19,14 @@ use Rattle.event_lines.specs.LineGrammar.{NoSpace, AreApart, spaced, SpellsStatu
 use Rattle.event_lines.specs.LineRefusals.{EndsWord, IsNext, IsStatusWord}
 use Rattle.event_lines.specs.declared.event.Event.{Event}
 use Rattle.event_lines.specs.declared.event.Event.TheVariants.{Client}
-use Rattle.event_lines.specs.declared.refusal.LineRefusal.{LineRefusal}
-use Rattle.event_lines.specs.declared.refusal.LineRefusal.TheVariants.{BadField, UnknownKind}
+use Rattle.event_lines.specs.declared.refusal.LineRefusal.TheVariants.{UnknownKind}
 use Rattle.event_lines.proofs.AgeTexts.{age_told}
+use Rattle.event_lines.proofs.AnswerFields.{answer_sound}
+use Rattle.event_lines.proofs.FieldReads.{part, got, text_of, field_next, field_reads, field_found, joined_last, joined, behind_kind}
 use Rattle.event_lines.proofs.NumberTexts.{number_sound, port_sound}
 use Rattle.event_lines.proofs.FieldTexts.{proto_sound, origin_field_sound, names_field_sound, octets_sound}
 use Rattle.event_lines.proofs.Refusals.{got_parts}
 use Rattle.event_lines.proofs.ResponseTexts.{status_apart, tabbed_ends_word, reply_complete, status_reads, status_found, reply_found}
-use Rattle.event_lines.proofs.Spaces.{next_reads, next_spaced, Next, Nothing, More, next_of}
-
-abbrev part : List ℕ → ℕ → Part
-part text place = record { text = text; place = place }
-
-abbrev got : {A : Type 0} → A → Part → Reading A
-got value left = Ok (value, left)
-
--- a field whose word is read
-pub field_next : {A B : Type 0} (read : List ℕ → Option A) (next : A × Part → Reading B) (text word behind : List ℕ) (place : ℕ) (value : A) → IsNext text word behind → read word ≡ Some value
-    → (field read (part text place) >>= next) ≡ next (value, part behind (place + 1 + length word))
-field_next {A} {B} read next text word behind place value is_next is =
-    ap (λ (r : Reading Part). (r >>= λ (w : Part × Part). value_or BadField w.0.place (read w.0.text) >>= λ v. got v w.1) >>= next) (next_reads BadField text word behind place is_next)
-    ∙ ap (λ (o : Option A). (value_or BadField (place + 1) o >>= λ v. got v (part behind (place + 1 + length word))) >>= next) is
-
-pub field_reads : {A B : Type 0} (read : List ℕ → Option A) (next : A × Part → Reading B) (word : List ℕ) (words : List (List ℕ)) (place : ℕ) (value : A) → NoSpace word → read word ≡ Some value
-    → (field read (part (spaced (word ∷ words)) place) >>= next) ≡ next (value, part (spaced words) (place + 1 + length word))
-field_reads {A} {B} read next word words place value apart is = field_next read next (spaced (word ∷ words)) word (spaced words) place value (next_spaced word words apart) is
-
--- what is read of a field, where a value comes of it and what follows
-pub record Found {A B : Type 0} (read : List ℕ → Option A) (next : A × Part → Reading B) (text : List ℕ) (place : ℕ) (end : B × Part) : Type 0 where
-  pub word : List ℕ
-  pub behind : List ℕ
-  pub value : A
-  pub is_next : IsNext text word behind
-  pub is_read : read word ≡ Some value
-  pub then_is : next (value, part behind (place + 1 + length word)) ≡ Ok end
-
-abbrev after_word : {A B : Type 0} → (List ℕ → Option A) → (A × Part → Reading B) → Reading Part → Reading B
-after_word read next r = (r >>= λ (w : Part × Part). value_or BadField w.0.place (read w.0.text) >>= λ v. got v w.1) >>= next
-
-pub field_found : {A B : Type 0} (read : List ℕ → Option A) (next : A × Part → Reading B) (text : List ℕ) (place : ℕ) (end : B × Part) → EndsWord text → (field read (part text place) >>= next) ≡ Ok end → Found read next text place end
-field_found {A} {B} read next text place end ends h = go (next_of text ends)
-  where
-    clash : (p : ℕ) (why : LineRefusal) → refused {A = B × Part} p why ≡ Ok end → ⊥
-    clash p why e = cc
-
-    at : (word behind : List ℕ) (o : Option A) → IsNext text word behind → read word ≡ o → ((value_or BadField (place + 1) o >>= λ v. got v (part behind (place + 1 + length word))) >>= next) ≡ Ok end → Found read next text place end
-    at word behind None s is e = absurd (clash (place + 1) BadField e)
-    at word behind (Some value) s is e = record { word = word; behind = behind; value = value; is_next = s; is_read = is; then_is = e }
-
-    go : Next text → Found read next text place end
-    go (Nothing none) = absurd (clash place BadField (sym (ap (λ t. after_word read next (next_word BadField (part t place))) none) ∙ h))
-    go (More word behind s) = at word behind (read word) s refl (sym (ap (after_word read next) (next_reads BadField text word behind place s)) ∙ h)
-
--- the words of a text are joined again
-pub joined_last : (text word behind : List ℕ) → IsNext text word behind → behind ≡ [] → text ≡ spaced (word ∷ [])
-joined_last text word behind s none = s.spelled ∙ ap (λ t. 32 ∷ (word ++ t)) none
-
-pub joined : (text word behind : List ℕ) (words : List (List ℕ)) → IsNext text word behind → behind ≡ spaced words → text ≡ spaced (word ∷ words)
-joined text word behind words s more = s.spelled ∙ ap (λ t. 32 ∷ (word ++ t)) more
-
-abbrev text_of : Part → List ℕ
-text_of p = p.text
 
 abbrev opened_names : ℕ → Proto → Addr → ℕ → List CertName × Part → Reading Event
 opened_names attempt proto addr port n = got (Client (Opened attempt proto addr port n.0)) n.1
@@ -146,9 +93,6 @@ pub numbered_complete : (event : ℕ → Event) (n : List ℕ) (number place : �
 numbered_complete event n number place apart is = field_reads (number_of most_long) (numbered event) n [] place number apart is
 
 -- what is read of a kind's fields is spelled so
-behind_kind : (kind text whole : List ℕ) (words : List (List ℕ)) → whole ≡ 32 ∷ (kind ++ text) → text ≡ spaced words → whole ≡ spaced (kind ∷ words)
-behind_kind kind text whole words is more = is ∙ ap (λ t. 32 ∷ (kind ++ t)) more
-
 pub request_sound : (text whole : List ℕ) (place : ℕ) (event : Event) (left : Part) → whole ≡ 32 ∷ (codes "request" ++ text) → EndsWord text → request_fields (part text place) ≡ got event left → left.text ≡ []
     → SpellsKind whole event
 request_sound text whole place event left is ends h none =
@@ -302,7 +246,7 @@ pub kind_sound : (name text whole : List ℕ) (p q : ℕ) (event : Event) (left 
     → SpellsKind whole event
 kind_sound name text whole p q event left is ends h none =
     go (is_name name (codes "request")) (is_name name (codes "opened")) (is_name name (codes "failed")) (is_name name (codes "closed")) (is_name name (codes "response")) (is_name name (codes "input"))
-    (is_name name (codes "network")) (is_name name (codes "tick")) (is_name name (codes "who")) refl refl refl refl refl refl refl refl refl h
+    (is_name name (codes "answer")) (is_name name (codes "network")) (is_name name (codes "tick")) (is_name name (codes "who")) (is_name name (codes "stats")) refl refl refl refl refl refl refl refl refl refl refl h
   where
     named : (kind : List ℕ) → is_name name kind ≡ true → whole ≡ 32 ∷ (kind ++ text)
     named kind t = is ∙ ap (λ n. 32 ∷ (n ++ text)) (same_text name kind (sym t))
@@ -315,18 +259,21 @@ kind_sound name text whole p q event left is ends h none =
         let last = got_parts own event (part text q) left e in
         subst (SpellsKind whole) last.0 (spells (behind_kind kind text whole [] w (ap text_of last.1 ∙ none)))
 
-    go : (a b c d r i n t w : Bool) → is_name name (codes "request") ≡ a → is_name name (codes "opened") ≡ b → is_name name (codes "failed") ≡ c → is_name name (codes "closed") ≡ d → is_name name (codes "response") ≡ r
-        → is_name name (codes "input") ≡ i → is_name name (codes "network") ≡ n → is_name name (codes "tick") ≡ t → is_name name (codes "who") ≡ w
+    go : (a b c d r i v n t w s : Bool) → is_name name (codes "request") ≡ a → is_name name (codes "opened") ≡ b → is_name name (codes "failed") ≡ c → is_name name (codes "closed") ≡ d → is_name name (codes "response") ≡ r
+        → is_name name (codes "input") ≡ i → is_name name (codes "answer") ≡ v → is_name name (codes "network") ≡ n → is_name name (codes "tick") ≡ t → is_name name (codes "who") ≡ w → is_name name (codes "stats") ≡ s
         → cond a (request_fields (part text q)) (cond b (opened_fields (part text q)) (cond c (failed_fields (part text q)) (cond d (closed_fields (part text q)) (cond r (response_fields (part text q))
-        (cond i (input_fields (part text q)) (cond n (got (Client Network) (part text q)) (cond t (got (Client Tick) (part text q)) (cond w (who_fields (part text q)) (refused p UnknownKind)))))))))
+        (cond i (input_fields (part text q)) (cond v (answer_fields (part text q)) (cond n (got (Client Network) (part text q)) (cond t (got (Client Tick) (part text q)) (cond w (who_fields (part text q))
+        (cond s (got (Client Stats) (part text q)) (refused p UnknownKind)))))))))))
         ≡ got event left → SpellsKind whole event
-    go true b c d r i n t w is_a is_b is_c is_d is_r is_i is_n is_t is_w k = request_sound text whole q event left (named (codes "request") is_a) ends k none
-    go false true c d r i n t w is_a is_b is_c is_d is_r is_i is_n is_t is_w k = opened_sound text whole q event left (named (codes "opened") is_b) ends k none
-    go false false true d r i n t w is_a is_b is_c is_d is_r is_i is_n is_t is_w k = numbered_sound (λ n. Client (Failed n)) (codes "failed") text whole q event left (λ n s. s) (named (codes "failed") is_c) ends k none
-    go false false false true r i n t w is_a is_b is_c is_d is_r is_i is_n is_t is_w k = numbered_sound (λ n. Client (Closed n)) (codes "closed") text whole q event left (λ n s. s) (named (codes "closed") is_d) ends k none
-    go false false false false true i n t w is_a is_b is_c is_d is_r is_i is_n is_t is_w k = response_sound text whole q event left (named (codes "response") is_r) ends k none
-    go false false false false false true n t w is_a is_b is_c is_d is_r is_i is_n is_t is_w k = input_sound text whole q event left (named (codes "input") is_i) ends k none
-    go false false false false false false true t w is_a is_b is_c is_d is_r is_i is_n is_t is_w k = alone (codes "network") (Client Network) (λ s. s) (named (codes "network") is_n) k
-    go false false false false false false false true w is_a is_b is_c is_d is_r is_i is_n is_t is_w k = alone (codes "tick") (Client Tick) (λ s. s) (named (codes "tick") is_t) k
-    go false false false false false false false false true is_a is_b is_c is_d is_r is_i is_n is_t is_w k = who_sound text whole q event left (named (codes "who") is_w) ends k none
-    go false false false false false false false false false is_a is_b is_c is_d is_r is_i is_n is_t is_w k = absurd (clash k)
+    go true b c d r i v n t w s is_a is_b is_c is_d is_r is_i is_v is_n is_t is_w is_s k = request_sound text whole q event left (named (codes "request") is_a) ends k none
+    go false true c d r i v n t w s is_a is_b is_c is_d is_r is_i is_v is_n is_t is_w is_s k = opened_sound text whole q event left (named (codes "opened") is_b) ends k none
+    go false false true d r i v n t w s is_a is_b is_c is_d is_r is_i is_v is_n is_t is_w is_s k = numbered_sound (λ n. Client (Failed n)) (codes "failed") text whole q event left (λ n s. s) (named (codes "failed") is_c) ends k none
+    go false false false true r i v n t w s is_a is_b is_c is_d is_r is_i is_v is_n is_t is_w is_s k = numbered_sound (λ n. Client (Closed n)) (codes "closed") text whole q event left (λ n s. s) (named (codes "closed") is_d) ends k none
+    go false false false false true i v n t w s is_a is_b is_c is_d is_r is_i is_v is_n is_t is_w is_s k = response_sound text whole q event left (named (codes "response") is_r) ends k none
+    go false false false false false true v n t w s is_a is_b is_c is_d is_r is_i is_v is_n is_t is_w is_s k = input_sound text whole q event left (named (codes "input") is_i) ends k none
+    go false false false false false false true n t w s is_a is_b is_c is_d is_r is_i is_v is_n is_t is_w is_s k = answer_sound text whole q event left (named (codes "answer") is_v) ends k none
+    go false false false false false false false true t w s is_a is_b is_c is_d is_r is_i is_v is_n is_t is_w is_s k = alone (codes "network") (Client Network) (λ s. s) (named (codes "network") is_n) k
+    go false false false false false false false false true w s is_a is_b is_c is_d is_r is_i is_v is_n is_t is_w is_s k = alone (codes "tick") (Client Tick) (λ s. s) (named (codes "tick") is_t) k
+    go false false false false false false false false false true s is_a is_b is_c is_d is_r is_i is_v is_n is_t is_w is_s k = who_sound text whole q event left (named (codes "who") is_w) ends k none
+    go false false false false false false false false false false true is_a is_b is_c is_d is_r is_i is_v is_n is_t is_w is_s k = alone (codes "stats") (Client Stats) (λ s. s) (named (codes "stats") is_s) k
+    go false false false false false false false false false false false is_a is_b is_c is_d is_r is_i is_v is_n is_t is_w is_s k = absurd (clash k)

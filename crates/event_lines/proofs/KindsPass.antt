@@ -6,17 +6,21 @@ use Rattle.origin_values.specs.declared.address.Addr.{Addr}
 use Rattle.origin_values.specs.declared.origin.Origin.{Origin}
 use Rattle.origin_values.specs.declared.proto.Proto.{Proto}
 use Rattle.coalescing.specs.declared.cert_name.CertName.{CertName}
-use Rattle.route_events.specs.declared.fact.Fact.TheVariants.{Request, Opened, Failed, Closed, Response, Input, Network, Tick, Who}
-use Rattle.event_lines.specs.Fields.{number_of, port_of, proto_of, origin_of, names_of, octets_of}
-use Rattle.event_lines.specs.Limits.{most_short, most_long}
+use Rattle.route_events.specs.declared.answer.AnswerBody.{AnswerBody}
+use Rattle.route_events.specs.declared.fact.Fact.TheVariants.{Request, Opened, Failed, Closed, Response, Input, Answer, Network, Tick, Who, Stats}
+use Rattle.event_lines.specs.Fields.{number_of, port_of, proto_of, origin_of, names_of, octets_of, dns_name_of, answer_kind_of}
+use Rattle.event_lines.specs.AnswerReading.{items_reading}
+use Rattle.event_lines.specs.Limits.{most_short, most_long, most_ttl}
 use Rattle.event_lines.specs.Parts.{Part, Reading, ◌>>=◌, field, refused}
-use Rattle.event_lines.specs.LineReading.{request_fields, opened_fields, response_fields, input_fields, who_fields, kind_reading, end_reading}
+use Rattle.event_lines.specs.LineReading.{request_fields, opened_fields, response_fields, input_fields, answer_fields, who_fields, kind_reading, end_reading}
 use Rattle.event_lines.specs.ResponseReading.{status_reading, reply_reading}
 use Rattle.event_lines.specs.declared.response.Reply.{Reply}
-use Rattle.event_lines.specs.LineRefusals.{OfNumber, OfPort, OfProto, OfAddr, OfOrigin, OfNames, OfOctets, NoMore, Then, StatusAndFields, Kind, kinds}
+use Rattle.event_lines.specs.LineRefusals.{OfNumber, OfPort, OfProto, OfAddr, OfOrigin, OfNames, OfOctets, OfName, NoMore, Then, StatusAndFields, KindAndItems, Kind, kinds}
+use Rattle.event_lines.specs.declared.answer_kind.AnswerKind.{AnswerKind}
 use Rattle.event_lines.specs.declared.event.Event.{Event}
 use Rattle.event_lines.specs.declared.event.Event.TheVariants.{Client}
 use Rattle.event_lines.specs.declared.refusal.LineRefusal.TheVariants.{UnknownKind}
+use Rattle.event_lines.proofs.AnswerTexts.{pass_items, pass_ttl, pass_answer}
 use Rattle.event_lines.proofs.Refusals.{Passed}
 use Rattle.event_lines.proofs.ResponseTexts.{pass_status}
 use Rattle.event_lines.proofs.Skeleton.{pass_fields, ended, ended_field}
@@ -76,6 +80,29 @@ response_passes rest =
     (λ (q : ℕ × Part). status_reading q.1 >>= λ (s : ℕ × Part). reply_reading s.1 >>= λ (r : Reply × Part). says (Client (Response q.0 s.0 (unwrap_or r.0.age 0) r.0.altsvc)) r.1)
     StatusAndFields rest (λ word. refl) λ request left. status_passes request left
 
+kind_passes : (name : List (List ℕ)) (rest : Part)
+    → ended (field answer_kind_of rest >>= λ (k : AnswerKind × Part). field (number_of most_ttl) k.1 >>= λ (t : ℕ × Part). items_reading k.0 t.1 >>= λ (b : AnswerBody × Part). says (Client (Answer name t.0 b.0)) b.1) ≡ pass_answer rest
+kind_passes name rest = go (field answer_kind_of rest)
+  where
+    items : (ttl : ℕ) (r : Reading AnswerBody) → ended (r >>= λ (b : AnswerBody × Part). says (Client (Answer name ttl b.0)) b.1) ≡ (r >>= λ (b : AnswerBody × Part). end_reading b.1)
+    items ttl (Ok body) = refl
+    items ttl (Err at) = refl
+
+    behind : (kind : AnswerKind) (r : Reading ℕ) → ended (r >>= λ (t : ℕ × Part). items_reading kind t.1 >>= λ (b : AnswerBody × Part). says (Client (Answer name t.0 b.0)) b.1) ≡ (r >>= λ (t : ℕ × Part). pass_items kind t.1)
+    behind kind (Ok ttl) = items ttl.0 (items_reading kind ttl.1)
+    behind kind (Err at) = refl
+
+    go : (r : Reading AnswerKind) → ended (r >>= λ (k : AnswerKind × Part). field (number_of most_ttl) k.1 >>= λ (t : ℕ × Part). items_reading k.0 t.1 >>= λ (b : AnswerBody × Part). says (Client (Answer name t.0 b.0)) b.1)
+        ≡ (r >>= λ (k : AnswerKind × Part). pass_ttl k.0 k.1)
+    go (Ok kind) = behind kind.0 (field (number_of most_ttl) kind.1)
+    go (Err at) = refl
+
+answer_passes : (rest : Part) → ended (answer_fields rest) ≡ pass_fields (Then OfName KindAndItems) rest
+answer_passes rest =
+    ended_field OfName dns_name_of
+    (λ (n : List (List ℕ) × Part). field answer_kind_of n.1 >>= λ (k : AnswerKind × Part). field (number_of most_ttl) k.1 >>= λ (t : ℕ × Part). items_reading k.0 t.1 >>= λ (b : AnswerBody × Part). says (Client (Answer n.0 t.0 b.0)) b.1)
+    KindAndItems rest (λ word. refl) λ name left. kind_passes name left
+
 choice : (t : Bool) (a b : Reading Event) (c d : Passed) → ended a ≡ c → ended b ≡ d → ended (cond t a b) ≡ cond t c d
 choice true a b c d h k = h
 choice false a b c d h k = k
@@ -93,6 +120,8 @@ kinds_pass name rest =
     (choice (pointwise nat_eq name.text (codes "closed")) _ _ _ _ (numbered_passes (λ n. Client (Closed n)) rest)
     (choice (pointwise nat_eq name.text (codes "response")) _ _ _ _ (response_passes rest)
     (choice (pointwise nat_eq name.text (codes "input")) _ _ _ _ (input_passes rest)
+    (choice (pointwise nat_eq name.text (codes "answer")) _ _ _ _ (answer_passes rest)
     (choice (pointwise nat_eq name.text (codes "network")) (says (Client Network) rest) _ _ _ refl
     (choice (pointwise nat_eq name.text (codes "tick")) (says (Client Tick) rest) _ _ _ refl
-    (choice (pointwise nat_eq name.text (codes "who")) (who_fields rest) (refused name.place UnknownKind) _ _ (who_passes rest) refl))))))))
+    (choice (pointwise nat_eq name.text (codes "who")) _ _ _ _ (who_passes rest)
+    (choice (pointwise nat_eq name.text (codes "stats")) (says (Client Stats) rest) (refused name.place UnknownKind) _ _ refl refl))))))))))

@@ -9,10 +9,16 @@ pub mod NumberTexts
 pub mod AgeTexts
 pub mod FieldTexts
 pub mod Spaces
+pub mod FieldReads
+pub mod AnswerWords
+pub mod AnswerItems
+pub mod ItemSteps
 pub mod FieldSpellings
 pub mod FieldLists
 pub mod Refusals
 pub mod ResponseTexts
+pub mod AnswerTexts
+pub mod AnswerFields
 pub mod Skeleton
 pub mod KindsPass
 pub mod KindTexts

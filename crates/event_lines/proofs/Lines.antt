@@ -1,8 +1,12 @@
 -- The reading of lines against their grammar.
 use Rattle.std.proofs.Common.{◌≡◌, ℕ, ◌+◌, List, [], ◌∷◌, length, codes, Ok, Err, append-nil, refl, ap, sym, ◌∙◌, subst, inl, inr}
 use Rattle.alt_base.specs.declared.refusal.At.{At}
-use Rattle.route_events.specs.declared.fact.Fact.TheVariants.{Request, Opened, Failed, Closed, Response, Input, Delivered, Network, Tick, Who}
-use Rattle.event_lines.specs.Limits.{most_short, most_long}
+use Rattle.route_events.specs.declared.fact.Fact.TheVariants.{Request, Opened, Failed, Closed, Response, Input, Delivered, Answer, Network, Tick, Who, Stats}
+use Rattle.route_events.specs.declared.answer.AnswerBody.{AnswerBody}
+use Rattle.route_events.specs.declared.answer.AnswerBody.TheVariants as answer
+use Rattle.event_lines.specs.AnswerReading.{body_of}
+use Rattle.event_lines.specs.EventTexts.{kind_of, items_of, answer_kind_text}
+use Rattle.event_lines.specs.Limits.{most_short, most_long, most_ttl}
 use Rattle.event_lines.specs.Parts.{Part, Reading, ◌>>=◌, refused}
 use Rattle.event_lines.specs.LineReading.{kind_reading, end_reading, line_reading}
 use Rattle.event_lines.specs.LineGrammar.{SpellsNumber, spaced, SpellsKind, SpellsLine}
@@ -13,7 +17,8 @@ use Rattle.event_lines.specs.declared.refusal.LineRefusal.{LineRefusal}
 use Rattle.event_lines.specs.declared.refusal.LineRefusal.TheVariants.{BadMoment, UnknownKind}
 use Rattle.event_lines.proofs.AgeTexts.{age_read}
 use Rattle.event_lines.proofs.NumberTexts.{number_complete, port_complete}
-use Rattle.event_lines.proofs.FieldTexts.{proto_complete, origin_field_complete, names_field_complete, octets_complete}
+use Rattle.event_lines.proofs.AnswerFields.{answer_complete}
+use Rattle.event_lines.proofs.FieldTexts.{proto_complete, origin_field_complete, names_field_complete, octets_complete, dns_name_complete}
 use Rattle.event_lines.proofs.Spaces.{IsInner, no_space_from, next_spaced}
 use Rattle.event_lines.specs.ResponseGrammar.{altsvc_of}
 use Rattle.event_lines.specs.LineRefusals.{IsNext}
@@ -110,6 +115,11 @@ named now place text name words is plain =
     ap (λ t. behind_moment now (part t place)) is
     ∙ with_kind now place (spaced (name ∷ words)) name (spaced words) (next_spaced name words (no_space_from name plain))
 
+body_itself : (body : AnswerBody) → body_of (kind_of body) (items_of body) ≡ body
+body_itself (answer.V4 addresses) = refl
+body_itself (answer.V6 addresses) = refl
+body_itself (answer.Https rdatas) = refl
+
 kind_complete : (now place : ℕ) (text : List ℕ) (event : Event) → SpellsKind text event → behind_moment now (part text place) ≡ said now event
 kind_complete now place text (Client (Request number origin)) s =
     named now place text (codes "request") (s.number_text ∷ s.origin_text ∷ []) s.spelled refl
@@ -137,11 +147,16 @@ kind_complete now place text (Client (Input conn bytes)) s =
     named now place text (codes "input") (s.number_text ∷ s.bytes_text ∷ []) s.spelled refl
     ∙ ap (whole now) (input_complete s.number_text s.bytes_text conn bytes (place + 1 + 5) s.apart (number_complete most_long s.number_text conn s.of_number) (octets_complete s.bytes_text bytes s.of_bytes))
 kind_complete now place text (Client (Delivered conn head payload)) s = absurd s
+kind_complete now place text (Client (Answer name ttl body)) s =
+    named now place text (codes "answer") (s.name_text ∷ answer_kind_text (kind_of body) ∷ s.ttl_text ∷ s.item_texts) s.spelled refl
+    ∙ ap (whole now) (answer_complete s.name_text s.ttl_text s.item_texts (items_of body) (kind_of body) name ttl (place + 1 + 6) s.apart (dns_name_complete s.name_text name s.of_name) (number_complete most_ttl s.ttl_text ttl s.of_ttl) s.of_items).1
+    ∙ ap (λ b. said now (Client (Answer name ttl b))) (body_itself body)
 kind_complete now place text (Client Network) s = named now place text (codes "network") [] s refl
 kind_complete now place text (Client Tick) s = named now place text (codes "tick") [] s refl
 kind_complete now place text (Client (Who origin)) s =
     named now place text (codes "who") (s.origin_text ∷ []) s.spelled refl
     ∙ ap (whole now) (who_complete s.origin_text origin (place + 1 + 3) s.apart (origin_field_complete s.origin_text origin s.of_origin))
+kind_complete now place text (Client Stats) s = named now place text (codes "stats") [] s refl
 kind_complete now place text Skip s = absurd s
 
 begins_spaced : (text rest : List ℕ) → text ≡ 32 ∷ rest → EndsWord text
@@ -155,9 +170,11 @@ kind_ends text (Client (Closed conn)) s = begins_spaced text _ s.spelled
 kind_ends text (Client (Response request status age altsvc)) s = begins_spaced text _ s.spelled
 kind_ends text (Client (Input conn bytes)) s = begins_spaced text _ s.spelled
 kind_ends text (Client (Delivered conn head payload)) s = absurd s
+kind_ends text (Client (Answer name ttl body)) s = begins_spaced text _ s.spelled
 kind_ends text (Client Network) s = begins_spaced text _ s
 kind_ends text (Client Tick) s = begins_spaced text _ s
 kind_ends text (Client (Who origin)) s = begins_spaced text _ s.spelled
+kind_ends text (Client Stats) s = begins_spaced text _ s
 kind_ends text Skip s = absurd s
 
 -- what is spelled is read

@@ -2,12 +2,14 @@
 use Rattle.std.proofs.Common.{◌≡◌, ◌≢◌, ◌⊎◌, ℕ, ◌+◌, Bool, true, false, cond, nat_eq, List, [], ◌∷◌, ◌++◌, length, Option, Some, None, Ok, Err, append-nil, refl, ap, sym, ◌∙◌, subst, inl, inr}
 use Rattle.std.specs.Cmp.Lexicographic.{pointwise, same_text, other_text}
 use Rattle.alt_base.specs.declared.refusal.At.{At}
+use Rattle.event_lines.specs.EventTexts.{answer_kind_text}
 use Rattle.event_lines.specs.Fields.{number_of}
 use Rattle.event_lines.specs.Limits.{most_short}
 use Rattle.event_lines.specs.Parts.{Part}
 use Rattle.event_lines.specs.LineReading.{kind_reading, line_reading}
 use Rattle.event_lines.specs.LineGrammar.{SpellsNumber, SpellsLine}
-use Rattle.event_lines.specs.LineRefusals.{EndsWord, IsNext, Forms, NoMore, Then, StatusAndFields, Kind, kinds, IsAmong, IsNone, FieldsRefusedAt, IsOtherKind, IsWrongField, LineRefusedAt, OneLine}
+use Rattle.event_lines.specs.LineRefusals.{EndsWord, IsNext, Forms, NoMore, Then, StatusAndFields, KindAndItems, Kind, kinds, IsAmong, IsNone, TtlRefusedAt, FieldsRefusedAt, IsOtherKind, IsWrongField, LineRefusedAt, OneLine}
+use Rattle.event_lines.specs.declared.answer_kind.AnswerKind.{AnswerKind}
 use Rattle.event_lines.specs.declared.event.Event.{Event}
 use Rattle.event_lines.specs.declared.event.Event.TheVariants.{Skip}
 use Rattle.event_lines.specs.declared.refusal.LineRefusal.{LineRefusal}
@@ -101,13 +103,21 @@ line_refused line place UnknownKind (inr s) =
 line_refused line place BadField s = wrong_field line place BadField s
 line_refused line place ExtraField s = wrong_field line place ExtraField s
 
--- fields are refused for two reasons alone
+-- fields are refused for two reasons alone, and a TTL and what stands behind it for one
+ttl_reason : (kind : AnswerKind) (begin : ℕ) (text : List ℕ) (place : ℕ) (reason : LineRefusal) → TtlRefusedAt kind begin text place reason → reason ≡ BadField
+ttl_reason kind begin text place reason (inl s) = s.why
+ttl_reason kind begin text place reason (inr (inl s)) = s.why
+ttl_reason kind begin text place reason (inr (inr s)) = s.later.why
+
 field_reason : (forms : Forms) (begin : ℕ) (text : List ℕ) (place : ℕ) (reason : LineRefusal) → FieldsRefusedAt forms begin text place reason → (reason ≡ BadField) ⊎ (reason ≡ ExtraField)
 field_reason NoMore begin text place reason s = inr s.why
 field_reason StatusAndFields begin text place reason (inl s) = inl s.why
 field_reason StatusAndFields begin text place reason (inr (inl s)) = inl s.why
 field_reason StatusAndFields begin text place reason (inr (inr (inl s))) = inr s.why
 field_reason StatusAndFields begin text place reason (inr (inr (inr s))) = inl s.why
+field_reason KindAndItems begin text place reason (inl s) = inl s.why
+field_reason KindAndItems begin text place reason (inr (inl s)) = inl s.why
+field_reason KindAndItems begin text place reason (inr (inr s)) = inl (ttl_reason s.kind (begin + 1 + length (answer_kind_text s.kind)) s.behind place reason s.later)
 field_reason (Then form forms) begin text place reason (inl s) = inl s.why
 field_reason (Then form forms) begin text place reason (inr (inl s)) = inl s.why
 field_reason (Then form forms) begin text place reason (inr (inr s)) = field_reason forms (begin + 1 + length s.word) s.behind place reason s.later

@@ -2,9 +2,10 @@
 use Rattle.std.proofs.Common.{◌≡◌, ℕ, ◌+◌, Bool, true, false, cond, List, [], ◌∷◌, length, Option, None, Some, Ok, Err, refl, ap, sym, ◌∙◌, inl, inr}
 use Rattle.event_lines.specs.Parts.{Part, Reading, ◌>>=◌, next_word, value_or, field, refused}
 use Rattle.event_lines.specs.LineReading.{end_reading}
-use Rattle.event_lines.specs.LineRefusals.{Form, Forms, NoMore, Then, StatusAndFields, EndsWord, IsNext, FieldsRefusedAt}
+use Rattle.event_lines.specs.LineRefusals.{Form, Forms, NoMore, Then, StatusAndFields, KindAndItems, EndsWord, IsNext, FieldsRefusedAt}
 use Rattle.event_lines.specs.declared.refusal.LineRefusal.{LineRefusal}
 use Rattle.event_lines.specs.declared.refusal.LineRefusal.TheVariants.{BadField, ExtraField}
+use Rattle.event_lines.proofs.AnswerTexts.{pass_answer, kind_refused, kind_says}
 use Rattle.event_lines.proofs.FieldTexts.{is_some, has_form, form_sound, form_complete, form_missed, form_none}
 use Rattle.event_lines.proofs.Spaces.{next_reads, Next, Nothing, More, next_of}
 use Rattle.event_lines.proofs.Refusals.{Passed, bad, same_refusal, refusal_parts}
@@ -14,6 +15,7 @@ use Rattle.event_lines.proofs.ResponseTexts.{pass_status, status_refused, status
 abbrev pub pass_fields : Forms → Part → Passed
 pass_fields NoMore rest = end_reading rest
 pass_fields StatusAndFields rest = pass_status rest
+pass_fields KindAndItems rest = pass_answer rest
 pass_fields (Then form forms) rest = next_word BadField rest >>= λ (word : Part × Part). cond (has_form form word.0.text) (pass_fields forms word.1) (refused word.0.place BadField)
 
 -- a reading, and nothing behind it
@@ -47,6 +49,7 @@ one_field form forms begin text word behind s =
 pub fields_refused : (forms : Forms) (begin : ℕ) (text : List ℕ) (place : ℕ) (reason : LineRefusal) → FieldsRefusedAt forms begin text place reason → pass_fields forms (part text begin) ≡ bad place reason
 fields_refused NoMore begin [] place reason s = absurd (s.more refl)
 fields_refused StatusAndFields begin text place reason s = status_refused begin text place reason s
+fields_refused KindAndItems begin text place reason s = kind_refused begin text place reason s
 fields_refused NoMore begin (b ∷ bs) place reason s = same_refusal (begin + 1) place ExtraField reason (sym s.at) (sym s.why)
 fields_refused (Then form forms) begin text place reason (inl s) =
     ap (λ t. pass_fields (Then form forms) (part t begin)) s.nothing ∙ same_refusal begin place BadField reason (sym s.at) (sym s.why)
@@ -62,6 +65,7 @@ fields_refused (Then form forms) begin text place reason (inr (inr s)) =
 -- and the other way round
 pub fields_say : (forms : Forms) (begin : ℕ) (text : List ℕ) (place : ℕ) (reason : LineRefusal) → EndsWord text → pass_fields forms (part text begin) ≡ bad place reason → FieldsRefusedAt forms begin text place reason
 fields_say StatusAndFields begin text place reason end h = status_says begin text place reason end h
+fields_say KindAndItems begin text place reason end h = kind_says begin text place reason end h
 fields_say NoMore begin [] place reason end h = cc
 fields_say NoMore begin (b ∷ bs) place reason end h =
     let same = refusal_parts (begin + 1) place ExtraField reason h in

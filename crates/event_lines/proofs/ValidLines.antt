@@ -2,25 +2,34 @@
 use Rattle.std.proofs.Common.{◌≡◌, ℕ, ◌*◌, ◌≤◌, Bool, true, false, cond, List, [], ◌∷◌, ◌++◌, length, codes, Option, Result, Ok, Err, refl, ap, sym, ◌∙◌, subst, inl, inr, arith}
 use Rattle.std.proofs.lemmas.Bool.{false≢true}
 use Rattle.std.proofs.lemmas.List.{length-append}
+use Rattle.std.proofs.lemmas.List.Elements.{All-cons, All-nil}
 use Rattle.alt_base.specs.declared.moment.Moment.{Moment}
 use Rattle.alt_base.specs.declared.refusal.Refused.{Refused}
 use Rattle.field_text.specs.Runs.{AllIn, BeginsIn}
+use Rattle.dns_names.proofs.TextNames.{spelled_name}
+use Rattle.origin_values.specs.Valid.{IsAddr}
+use Rattle.origin_values.specs.declared.address.Addr.TheVariants as address
 use Rattle.origin_values.proofs.AddressTexts.{addr_valid}
 use Rattle.origin_values.proofs.OriginTexts.{origin_valid}
 use Rattle.coalescing.proofs.NamesTexts.{names_valid}
 use Rattle.hex.proofs.HexLemmas.{decode_of-ok}
 use Rattle.hex_text.proofs.HexReading.{hex_read}
+use Rattle.route_events.specs.declared.answer.AnswerBody.{AnswerBody}
+use Rattle.route_events.specs.declared.answer.AnswerBody.TheVariants as answer
 use Rattle.route_events.specs.declared.fact.Fact.{Fact}
-use Rattle.route_events.specs.declared.fact.Fact.TheVariants.{Request, Opened, Failed, Closed, Response, Input, Delivered, Network, Tick, Who}
-use Rattle.std.specs.Prelude.{IfOk}
-use Rattle.event_lines.specs.LineGrammar.{spaced, SpellsResponse, SpellsInput, SpellsKind, SpellsEvent, SpellsLine}
+use Rattle.route_events.specs.declared.fact.Fact.TheVariants.{Request, Opened, Failed, Closed, Response, Input, Delivered, Answer, Network, Tick, Who, Stats}
+use Rattle.std.specs.Prelude.{All, IfOk}
+use Rattle.event_lines.specs.EventTexts.{kind_of, items_of, answer_kind_text}
+use Rattle.event_lines.specs.LineGrammar.{SpellsOctets, SpellsItem, SpellItems, spaced, SpellsResponse, SpellsInput, SpellsAnswer, SpellsKind, SpellsEvent, SpellsLine}
 use Rattle.event_lines.specs.HaveLines.{HasText}
 use Rattle.event_lines.specs.Limits.{most_octets}
 use Rattle.event_lines.specs.LineReading.{line_reading}
 use Rattle.event_lines.specs.Parts.{is_space}
 use Rattle.event_lines.specs.Reads.{IsRead}
 use Rattle.event_lines.specs.ResponseGrammar.{Field, is_value_byte, IsValue, SpellFields, is_named, values_of, further_values, joined_values}
-use Rattle.event_lines.specs.Valid.{IsOptional, IsResponse, IsInput, IsFact, IsEvent, IsShort}
+use Rattle.event_lines.specs.Valid.{IsOptional, IsResponse, AreOctets, IsInput, IsBody, IsAnswer, IsFact, IsEvent, HasShortRecords, IsShort}
+use Rattle.event_lines.specs.declared.answer_kind.AnswerKind.{AnswerKind}
+use Rattle.event_lines.specs.declared.answer_kind.AnswerKind.TheVariants.{Ipv4, Ipv6, Https}
 use Rattle.event_lines.specs.declared.event.Event.{Event}
 use Rattle.event_lines.specs.declared.event.Event.TheVariants.{Client, Skip}
 use Rattle.event_lines.specs.declared.refusal.LineRefusal.{LineRefusal}
@@ -67,8 +76,26 @@ response_valid text request status age altsvc s = record {
   of_altsvc = subst IsOptional (sym s.of_altsvc) (joined_valid (values_of (codes "alt-svc") s.fields) (are_values (codes "alt-svc") s.field_texts s.fields s.of_fields));
 }
 
+octets_valid : (text octets : List ℕ) → SpellsOctets text octets → AreOctets octets
+octets_valid text octets s = record { some = s.some; bytes = (decode_of-ok text octets (hex_read text octets s.hex)).3 }
+
 input_valid : (text : List ℕ) (conn : ℕ) (bytes : List ℕ) → SpellsInput text conn bytes → IsInput conn bytes
-input_valid text conn bytes s = record { conn_within = s.of_number.within; some = s.of_bytes.some; of_bytes = (decode_of-ok s.bytes_text bytes (hex_read s.bytes_text bytes s.of_bytes.hex)).3 }
+input_valid text conn bytes s = record { conn_within = s.of_number.within; of_bytes = octets_valid s.bytes_text bytes s.of_bytes }
+
+-- what holds of each item that a text spells
+all_items : (kind : AnswerKind) (P : List ℕ → Type 0) → ((text item : List ℕ) → SpellsItem kind text item → P item) → (texts items : List (List ℕ)) → SpellItems kind texts items → All P items
+all_items kind P valid [] [] h = All-nil P
+all_items kind P valid [] (item ∷ items) h = absurd h
+all_items kind P valid (text ∷ texts) [] h = absurd h
+all_items kind P valid (text ∷ texts) (item ∷ items) h = All-cons P item items (valid text item h.0) (all_items kind P valid texts items h.1)
+
+body_valid : (body : AnswerBody) (texts : List (List ℕ)) → SpellItems (kind_of body) texts (items_of body) → IsBody body
+body_valid (answer.V4 addresses) texts h = all_items Ipv4 (λ octets. IsAddr (address.V4 octets)) (λ text octets s. addr_valid text (address.V4 octets) s) texts addresses h
+body_valid (answer.V6 addresses) texts h = all_items Ipv6 (λ octets. IsAddr (address.V6 octets)) (λ text octets s. addr_valid text (address.V6 octets) s) texts addresses h
+body_valid (answer.Https rdatas) texts h = all_items Https AreOctets octets_valid texts rdatas h
+
+answer_valid : (text : List ℕ) (name : List (List ℕ)) (ttl : ℕ) (body : AnswerBody) → SpellsAnswer text name ttl body → IsAnswer name ttl body
+answer_valid text name ttl body s = record { of_name = spelled_name s.name_text name s.of_name; ttl_within = s.of_ttl.within; of_body = body_valid body s.item_texts s.of_items }
 
 fact_valid : (text : List ℕ) (fact : Fact) → SpellsKind text (Client fact) → IsFact fact
 fact_valid text (Request number origin) s = (s.of_number.within, origin_valid s.origin_text origin s.of_origin)
@@ -84,9 +111,11 @@ fact_valid text (Closed conn) s = s.of_number.within
 fact_valid text (Response request status age altsvc) s = response_valid text request status age altsvc s
 fact_valid text (Input conn bytes) s = input_valid text conn bytes s
 fact_valid text (Delivered conn head payload) s = absurd s
+fact_valid text (Answer name ttl body) s = answer_valid text name ttl body s
 fact_valid text Network s = tt
 fact_valid text Tick s = tt
 fact_valid text (Who origin) s = origin_valid s.origin_text origin s.of_origin
+fact_valid text Stats s = tt
 
 event_valid : (line : List ℕ) (now : ℕ) (event : Event) → SpellsEvent line now event → IsEvent now event
 event_valid line now (Client fact) s = (s.of_moment.within, fact_valid s.text fact s.of_kind)
@@ -115,6 +144,41 @@ input_short line moment text conn bytes is s small =
     let within = last_word moment (codes "input") s.number_text s.bytes_text (length bytes) (omega (arith, twice)) in
     omega (arith, small, subst (λ l. length bytes ≤ length l) (sym whole) within)
 
+-- and so are the items of an answer
+items_within : (moment kind name own ttl : List ℕ) (texts : List (List ℕ)) → length (spaced texts) ≤ length (moment ++ spaced (kind ∷ name ∷ own ∷ ttl ∷ texts))
+items_within moment kind name own ttl texts =
+    omega (
+      arith,
+      length-append moment (spaced (kind ∷ name ∷ own ∷ ttl ∷ texts)),
+      length-append kind (spaced (name ∷ own ∷ ttl ∷ texts)),
+      length-append name (spaced (own ∷ ttl ∷ texts)),
+      length-append own (spaced (ttl ∷ texts)),
+      length-append ttl (spaced texts),
+    )
+
+one_short : (most : ℕ) (text octets : List ℕ) (texts : List (List ℕ)) → SpellsOctets text octets → length (spaced (text ∷ texts)) ≤ most → length octets ≤ most
+one_short most text octets texts s small =
+    let twice : length text ≡ 2 * length octets = (decode_of-ok text octets (hex_read text octets s.hex)).2 in
+    omega (arith, small, twice, length-append text (spaced texts))
+
+others_short : (most : ℕ) (text : List ℕ) (texts : List (List ℕ)) → length (spaced (text ∷ texts)) ≤ most → length (spaced texts) ≤ most
+others_short most text texts small = omega (arith, small, length-append text (spaced texts))
+
+records_short : (most : ℕ) (texts rdatas : List (List ℕ)) → SpellItems Https texts rdatas → length (spaced texts) ≤ most → All (λ (octets : List ℕ). length octets ≤ most) rdatas
+records_short most [] [] h small = All-nil (λ (octets : List ℕ). length octets ≤ most)
+records_short most [] (rdata ∷ rdatas) h small = absurd h
+records_short most (text ∷ texts) [] h small = absurd h
+records_short most (text ∷ texts) (rdata ∷ rdatas) h small =
+    All-cons (λ (octets : List ℕ). length octets ≤ most) rdata rdatas (one_short most text rdata texts h.0 small) (records_short most texts rdatas h.1 (others_short most text texts small))
+
+answer_short : (line moment text : List ℕ) (name : List (List ℕ)) (ttl : ℕ) (body : AnswerBody) → line ≡ moment ++ text → SpellsAnswer text name ttl body → length line ≤ most_octets → HasShortRecords body
+answer_short line moment text name ttl (answer.V4 addresses) is s small = tt
+answer_short line moment text name ttl (answer.V6 addresses) is s small = tt
+answer_short line moment text name ttl (answer.Https rdatas) is s small =
+    let whole : line ≡ moment ++ spaced (codes "answer" ∷ s.name_text ∷ answer_kind_text Https ∷ s.ttl_text ∷ s.item_texts) = is ∙ ap (λ t. moment ++ t) s.spelled in
+    let within = items_within moment (codes "answer") s.name_text (answer_kind_text Https) s.ttl_text s.item_texts in
+    records_short most_octets s.item_texts rdatas s.of_items (omega (arith, small, subst (λ l. length (spaced s.item_texts) ≤ length l) (sym whole) within))
+
 event_short : (line : List ℕ) (now : ℕ) (event : Event) → SpellsEvent line now event → length line ≤ most_octets → IsShort event
 event_short line now (Client (Request number origin)) s small = tt
 event_short line now (Client (Opened attempt proto addr port names)) s small = tt
@@ -123,9 +187,11 @@ event_short line now (Client (Closed conn)) s small = tt
 event_short line now (Client (Response request status age altsvc)) s small = tt
 event_short line now (Client (Input conn bytes)) s small = input_short line s.moment s.text conn bytes s.spelled s.of_kind small
 event_short line now (Client (Delivered conn head payload)) s small = tt
+event_short line now (Client (Answer name ttl body)) s small = answer_short line s.moment s.text name ttl body s.spelled s.of_kind small
 event_short line now (Client Network) s small = tt
 event_short line now (Client Tick) s small = tt
 event_short line now (Client (Who origin)) s small = tt
+event_short line now (Client Stats) s small = tt
 event_short line now Skip s small = tt
 
 pub line_short : (line : List ℕ) (now : ℕ) (event : Event) → SpellsLine line now event → length line ≤ most_octets → IsShort event
@@ -146,9 +212,11 @@ texted now (Client (Closed conn)) is = tt
 texted now (Client (Response request status age altsvc)) is = tt
 texted now (Client (Input conn bytes)) is = tt
 texted now (Client (Delivered conn head payload)) is = absurd is.1
+texted now (Client (Answer name ttl body)) is = tt
 texted now (Client Network) is = tt
 texted now (Client Tick) is = tt
 texted now (Client (Who origin)) is = tt
+texted now (Client Stats) is = tt
 texted now Skip is = tt
 
 pub read_texted : (result : Result (Moment × Event) (Refused LineRefusal)) → IfOk result (λ read. IsEvent read.0.0 read.1) → IfOk result (λ read. HasText read.1)

@@ -1,11 +1,17 @@
 -- The line of an event says it.
-use Rattle.std.proofs.Common.{◌≡◌, ℕ, zero, suc, ◌+◌, ◌*◌, true, ◌<◌, ◌≤◌, ◌^◌, List, [], ◌∷◌, ◌++◌, length, Option, Some, None, ◌≢◌, get_or, decimal, codes, append_assoc, append-nil, refl, sym, subst, arith, inl, inr}
+use Rattle.std.proofs.Common.{◌≡◌, ℕ, zero, suc, ◌+◌, ◌*◌, true, ◌<◌, ◌≤◌, ◌^◌, List, [], ◌∷◌, ◌++◌, length, Option, Some, None, ◌≢◌, get_or, decimal, codes, append_assoc, append-nil, refl, ap, sym, ◌∙◌, subst, arith, inl, inr}
+use Rattle.std.specs.Prelude.{All, map}
+use Rattle.std.proofs.lemmas.List.Elements.{All-head, All-tail}
 use Rattle.std.proofs.lemmas.Fmt.{decimal_is_IsNumeral, decimal_digit, first_decimal}
 use Rattle.std.proofs.lemmas.Str.Parse.{digit_from_value}
 use Rattle.std.specs.Char.{is_ascii_digit, digit_value}
 use Rattle.alt_base.proofs.Numbers.{le_true}
+use Rattle.dns_names.specs.TextParts.{text_form}
+use Rattle.dns_names.proofs.TextNames.{name_spelled}
+use Rattle.origin_values.specs.Valid.{IsAddr}
 use Rattle.origin_values.specs.Written.{addr_text, origin_text}
 use Rattle.origin_values.specs.declared.address.Addr.{Addr}
+use Rattle.origin_values.specs.declared.address.Addr.TheVariants as address
 use Rattle.origin_values.specs.declared.proto.Proto.{Proto}
 use Rattle.origin_values.specs.declared.proto.Proto.TheVariants.{H2, H3, Http11, Other}
 use Rattle.origin_values.proofs.AddressTexts.{addr_written}
@@ -16,18 +22,22 @@ use Rattle.coalescing.proofs.NamesTexts.{names_written}
 use Rattle.hex.specs.Hex.{encode_lower}
 use Rattle.hex.proofs.HexLemmas.{decode_of-encode_lower}
 use Rattle.hex_text.proofs.HexReading.{hex_spelled}
+use Rattle.route_events.specs.declared.answer.AnswerBody.{AnswerBody}
+use Rattle.route_events.specs.declared.answer.AnswerBody.TheVariants as answer
 use Rattle.route_events.specs.declared.fact.Fact.{Fact}
-use Rattle.route_events.specs.declared.fact.Fact.TheVariants.{Request, Opened, Failed, Closed, Response, Input, Delivered, Network, Tick, Who}
-use Rattle.event_lines.specs.EventTexts.{proto_text, opened_text, input_text, fact_text, event_text}
-use Rattle.event_lines.specs.Limits.{most_short, most_long, most_port, most_status}
+use Rattle.route_events.specs.declared.fact.Fact.TheVariants.{Request, Opened, Failed, Closed, Response, Input, Delivered, Answer, Network, Tick, Who, Stats}
+use Rattle.event_lines.specs.EventTexts.{proto_text, opened_text, input_text, kind_of, items_of, answer_kind_text, item_text, items_text, answer_text, fact_text, event_text}
+use Rattle.event_lines.specs.Limits.{most_short, most_long, most_port, most_status, most_ttl}
 use Rattle.event_lines.specs.HaveLines.{HasNoLastSpace, HasLine}
-use Rattle.event_lines.specs.Valid.{IsOpened, IsOptional, IsInput, IsFact}
-use Rattle.event_lines.specs.LineGrammar.{NoLeadingZero, SpellsNumber, SpellsStatus, NoSpace, spaced, SpellsOpened, SpellsInput, SpellsKind, SpellsLine}
+use Rattle.event_lines.specs.Valid.{IsOpened, IsOptional, AreOctets, IsInput, IsBody, IsAnswer, IsFact}
+use Rattle.event_lines.specs.LineGrammar.{NoLeadingZero, SpellsNumber, SpellsStatus, SpellsOctets, SpellsItem, SpellItems, NoSpace, AreApart, spaced, SpellsOpened, SpellsInput, SpellsAnswer, SpellsKind, SpellsLine}
+use Rattle.event_lines.specs.declared.answer_kind.AnswerKind.{AnswerKind}
+use Rattle.event_lines.specs.declared.answer_kind.AnswerKind.TheVariants.{Ipv4, Ipv6, Https}
 use Rattle.event_lines.specs.LineReading.{line_reading}
 use Rattle.event_lines.specs.declared.event.Event.{Event}
 use Rattle.event_lines.specs.declared.event.Event.TheVariants.{Client, Skip}
 use Rattle.event_lines.proofs.WrittenResponses.{HasField, number_value, response_written}
-use Rattle.event_lines.proofs.InnerBytes.{number_inner, addr_inner, origin_inner, names_inner, octets_inner}
+use Rattle.event_lines.proofs.InnerBytes.{number_inner, addr_inner, origin_inner, names_inner, octets_inner, dns_name_inner}
 use Rattle.event_lines.proofs.Spaces.{IsInner, no_space_from}
 use Rattle.event_lines.proofs.Lines.{said, line_complete}
 use Rattle.alt_base.proofs.Digits.{value_of_digit, value_grows}
@@ -73,14 +83,59 @@ input_joined c b = simp (append_assoc, append-nil)
 who_joined : (o : List ℕ) → 32 ∷ (codes "who " ++ o) ≡ spaced (codes "who" ∷ o ∷ [])
 who_joined o = simp append-nil
 
+octets_written : (octets : List ℕ) → AreOctets octets → SpellsOctets (encode_lower octets) octets
+octets_written octets h = record { some = h.some; hex = hex_spelled (encode_lower octets) octets (decode_of-encode_lower octets h.bytes) }
+
 input_written : (conn : ℕ) (bytes : List ℕ) → IsInput conn bytes → SpellsInput (32 ∷ input_text conn bytes) conn bytes
 input_written conn bytes h = record {
   number_text = decimal conn;
   bytes_text = encode_lower bytes;
   spelled = input_joined (decimal conn) (encode_lower bytes);
-  apart = (number_apart most_long conn (omega arith) h.conn_within, (no_space_from (encode_lower bytes) (octets_inner bytes h.of_bytes), tt));
+  apart = (number_apart most_long conn (omega arith) h.conn_within, (no_space_from (encode_lower bytes) (octets_inner bytes h.of_bytes.bytes), tt));
   of_number = number_written most_long conn (omega arith) h.conn_within;
-  of_bytes = record { some = h.some; hex = hex_spelled (encode_lower bytes) bytes (decode_of-encode_lower bytes h.of_bytes) };
+  of_bytes = octets_written bytes h.of_bytes;
+}
+
+-- what an answer brings, one by one
+items_written : (kind : AnswerKind) (P : List ℕ → Type 0) → ((item : List ℕ) → P item → SpellsItem kind (item_text kind item) item) → (items : List (List ℕ)) → All P items → SpellItems kind (map (item_text kind) items) items
+items_written kind P spells [] h = tt
+items_written kind P spells (item ∷ items) h = (spells item (All-head P item items h), items_written kind P spells items (All-tail P item items h))
+
+body_written : (body : AnswerBody) → IsBody body → SpellItems (kind_of body) (map (item_text (kind_of body)) (items_of body)) (items_of body)
+body_written (answer.V4 addresses) h = items_written Ipv4 (λ octets. IsAddr (address.V4 octets)) (λ octets is. addr_written (address.V4 octets) is) addresses h
+body_written (answer.V6 addresses) h = items_written Ipv6 (λ octets. IsAddr (address.V6 octets)) (λ octets is. addr_written (address.V6 octets) is) addresses h
+body_written (answer.Https rdatas) h = items_written Https AreOctets octets_written rdatas h
+
+items_apart : (kind : AnswerKind) (P : List ℕ → Type 0) → ((item : List ℕ) → P item → IsInner (item_text kind item)) → (items : List (List ℕ)) → All P items → AreApart (map (item_text kind) items)
+items_apart kind P inner [] h = tt
+items_apart kind P inner (item ∷ items) h = (no_space_from (item_text kind item) (inner item (All-head P item items h)), items_apart kind P inner items (All-tail P item items h))
+
+body_apart : (body : AnswerBody) → IsBody body → AreApart (map (item_text (kind_of body)) (items_of body))
+body_apart (answer.V4 addresses) h = items_apart Ipv4 (λ octets. IsAddr (address.V4 octets)) (λ octets is. addr_inner (address.V4 octets) is) addresses h
+body_apart (answer.V6 addresses) h = items_apart Ipv6 (λ octets. IsAddr (address.V6 octets)) (λ octets is. addr_inner (address.V6 octets) is) addresses h
+body_apart (answer.Https rdatas) h = items_apart Https AreOctets (λ octets is. octets_inner octets is.bytes) rdatas h
+
+items_spaced : (text_of : List ℕ → List ℕ) (items : List (List ℕ)) → items_text text_of items ≡ spaced (map text_of items)
+items_spaced text_of [] = refl
+items_spaced text_of (item ∷ items) = ap (λ t. 32 ∷ (text_of item ++ t)) (items_spaced text_of items)
+
+answer_joined : (n k t rest : List ℕ) → 32 ∷ (codes "answer " ++ n ++ codes " " ++ k ++ codes " " ++ t ++ rest) ≡ 32 ∷ (codes "answer" ++ 32 ∷ (n ++ 32 ∷ (k ++ 32 ∷ (t ++ rest))))
+answer_joined n k t rest = simp append_assoc
+
+answer_written : (name : List (List ℕ)) (ttl : ℕ) (body : AnswerBody) → IsAnswer name ttl body → SpellsAnswer (32 ∷ answer_text name ttl body) name ttl body
+answer_written name ttl body h = record {
+  name_text = text_form name;
+  ttl_text = decimal ttl;
+  item_texts = map (item_text (kind_of body)) (items_of body);
+  spelled = answer_joined (text_form name) (answer_kind_text (kind_of body)) (decimal ttl) (items_text (item_text (kind_of body)) (items_of body))
+      ∙ ap (λ rest. 32 ∷ (codes "answer" ++ 32 ∷ (text_form name ++ 32 ∷ (answer_kind_text (kind_of body) ++ 32 ∷ (decimal ttl ++ rest))))) (items_spaced (item_text (kind_of body)) (items_of body));
+  apart = (
+    no_space_from (text_form name) (dns_name_inner (text_form name) name (name_spelled name h.of_name)),
+    (number_apart most_ttl ttl (omega arith) h.ttl_within, body_apart body h.of_body),
+  );
+  of_name = name_spelled name h.of_name;
+  of_ttl = number_written most_ttl ttl (omega arith) h.ttl_within;
+  of_items = body_written body h.of_body;
 }
 
 opened_written : (attempt : ℕ) (proto : Proto) (addr : Addr) (port : ℕ) (names : List CertName) → IsOpened attempt addr port names → SpellsOpened (32 ∷ opened_text attempt proto addr port names) attempt proto addr port names
@@ -159,8 +214,10 @@ fact_written (Response request status age altsvc) h end =
     (status_written status h.final h.status_within)
 fact_written (Input conn bytes) h end = input_written conn bytes h
 fact_written (Delivered conn head payload) h end = absurd h
+fact_written (Answer name ttl body) h end = answer_written name ttl body h
 fact_written Network h end = refl
 fact_written Tick h end = refl
+fact_written Stats h end = refl
 fact_written (Who origin) h end = record {
   origin_text = origin_text origin;
   spelled = who_joined (origin_text origin);

@@ -1,6 +1,7 @@
 -- The lines of actions, each without a newline.
 use Rattle.std.specs.Prelude.{ℕ, Bool, true, false, List, [], ◌∷◌, ◌++◌, codes, decimal, Option, Some, None, if◌then◌else◌, ◌==◌}
 use Rattle.std.specs.List.{join_with_byte}
+use Rattle.dns_names.specs.TextParts.{text_form}
 use Rattle.origin_values.specs.Written.{origin_text, host_text}
 use Rattle.origin_values.specs.declared.host.Host.{Host}
 use Rattle.origin_values.specs.declared.origin.Origin.{Origin}
@@ -10,23 +11,26 @@ use Rattle.altsvc_grammar.specs.declared.alt_svc.AltSvc.{AltSvc}
 use Rattle.route_events.specs.Authority.{protocols}
 use Rattle.route_events.specs.Dispatch.{host_or}
 use Rattle.route_events.specs.declared.action.Action.{Action}
-use Rattle.route_events.specs.declared.action.Action.TheVariants.{OpenTo, SendOn, Refuse, Lost, Retry, Close, Alternatives, Field, Ignored, Origins, Who}
+use Rattle.route_events.specs.declared.action.Action.TheVariants.{OpenTo, SendOn, Refuse, Lost, Retry, Close, Alternatives, Field, Ignored, Origins, Malformed, Who, Stats}
 use Rattle.route_events.specs.declared.route.Route.{Route}
-use Rattle.route_events.specs.declared.route.Route.TheVariants.{Direct, Alt}
+use Rattle.route_events.specs.declared.route.Route.TheVariants.{Direct, Alt, Rec}
 
 abbrev pub route_text : Route → List ℕ
 route_text Direct = codes "direct"
 route_text (Alt key) = codes "alt"
+route_text (Rec endpoint) = codes "rec"
 
--- the host and the port that a route goes to: the origin's own for the direct one, the alternative's for another
--- (RFC 7838 2), which may be at the origin's host
-abbrev pub route_host : Route → Origin → Host
-route_host Direct origin = origin.host
-route_host (Alt key) origin = host_or key.host origin.host
+-- the text of the host, and the port, that a route goes to: the origin's own for the direct one, the alternative's
+-- (RFC 7838 2), which may be at the origin's host, and the name and port of an endpoint (RFC 9460 3)
+abbrev pub route_host : Route → Origin → List ℕ
+route_host Direct origin = host_text origin.host
+route_host (Alt key) origin = host_text (host_or key.host origin.host)
+route_host (Rec endpoint) origin = text_form endpoint.target
 
 abbrev pub route_port : Route → Origin → ℕ
 route_port Direct origin = origin.port
 route_port (Alt key) origin = key.port
+route_port (Rec endpoint) origin = endpoint.port
 
 -- a name before others, where it is to be there
 abbrev pub if_in : Bool → List ℕ → List (List ℕ) → List (List ℕ)
@@ -45,7 +49,7 @@ protos_text protos = join_with_byte 44 (proto_names protos)
 abbrev pub open_text : ℕ → Origin → Route → List ℕ
 open_text attempt origin route =
     codes "open " ++ decimal attempt ++ codes " " ++ origin_text origin ++ codes " " ++ route_text route ++ codes " "
-    ++ protos_text (protocols origin.scheme route) ++ codes " " ++ host_text (route_host route origin) ++ codes " "
+    ++ protos_text (protocols origin.scheme route) ++ codes " " ++ route_host route origin ++ codes " "
     ++ decimal (route_port route origin)
 
 abbrev pub send_text : ℕ → ℕ → List ℕ
@@ -90,6 +94,11 @@ ignored_text conn kind reason place =
 abbrev pub origins_text : ℕ → ℕ → ℕ → List ℕ
 origins_text conn taken skipped = codes "origins " ++ decimal conn ++ codes " " ++ decimal taken ++ codes " " ++ decimal skipped
 
+-- the name whose answer holds a malformed record, the number of the first, from 1, the reason and the place in it
+abbrev pub malformed_text : List (List ℕ) → ℕ → ℕ → ℕ → List ℕ
+malformed_text name item reason place =
+    codes "malformed " ++ text_form name ++ codes " " ++ decimal item ++ codes " " ++ decimal reason ++ codes " " ++ decimal place
+
 -- numbers, each behind a space
 abbrev pub numbers_text : List ℕ → List ℕ
 numbers_text [] = []
@@ -103,6 +112,12 @@ conns_text (conn ∷ conns) = numbers_text (conn ∷ conns)
 abbrev pub who_text : Origin → List ℕ → List ℕ
 who_text origin conns = codes "who " ++ origin_text origin ++ conns_text conns
 
+-- how much of each there is
+abbrev pub stats_text : ℕ → ℕ → ℕ → ℕ → ℕ → List ℕ
+stats_text alternatives answers broken connections waiting =
+    codes "stats alternatives " ++ decimal alternatives ++ codes " answers " ++ decimal answers ++ codes " broken " ++ decimal broken
+    ++ codes " connections " ++ decimal connections ++ codes " waiting " ++ decimal waiting
+
 abbrev pub action_text : Action → List ℕ
 action_text (OpenTo attempt origin route) = open_text attempt origin route
 action_text (SendOn request conn stream alt_used) = send_text request conn ++ stream_text stream ++ alt_used_text alt_used
@@ -114,4 +129,6 @@ action_text (Alternatives origin value) = alternatives_text origin value
 action_text (Field request reason place) = ignored_field_text request reason place
 action_text (Ignored conn kind reason place) = ignored_text conn kind reason place
 action_text (Origins conn taken skipped) = origins_text conn taken skipped
+action_text (Malformed name item reason place) = malformed_text name item reason place
 action_text (Who origin conns) = who_text origin conns
+action_text (Stats alternatives answers broken connections waiting) = stats_text alternatives answers broken connections waiting

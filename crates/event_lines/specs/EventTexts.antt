@@ -1,14 +1,20 @@
 -- The lines of events, each without a newline. A further kind is one case of `fact_text`, or of `event_text`.
 use Rattle.std.specs.Prelude.{ℕ, ◌==◌, List, [], ◌∷◌, ◌++◌, codes, decimal, Option, Some, None, if◌then◌else◌}
-use Rattle.origin_values.specs.Written.{origin_text, addr_text}
+use Rattle.std.specs.Net.Text.{ipv4_text}
+use Rattle.dns_names.specs.TextParts.{text_form}
+use Rattle.origin_values.specs.Written.{origin_text, addr_text, v6_text}
 use Rattle.origin_values.specs.declared.address.Addr.{Addr}
 use Rattle.origin_values.specs.declared.proto.Proto.{Proto}
 use Rattle.origin_values.specs.declared.proto.Proto.TheVariants.{H2, H3, Http11, Other}
 use Rattle.coalescing.specs.NamesWritten.{names_text}
 use Rattle.coalescing.specs.declared.cert_name.CertName.{CertName}
 use Rattle.hex.specs.Hex.{encode_lower}
+use Rattle.route_events.specs.declared.answer.AnswerBody.{AnswerBody}
+use Rattle.route_events.specs.declared.answer.AnswerBody.TheVariants as answer
 use Rattle.route_events.specs.declared.fact.Fact.{Fact}
-use Rattle.route_events.specs.declared.fact.Fact.TheVariants.{Request, Opened, Failed, Closed, Response, Input, Delivered, Network, Tick, Who}
+use Rattle.route_events.specs.declared.fact.Fact.TheVariants.{Request, Opened, Failed, Closed, Response, Input, Delivered, Answer, Network, Tick, Who, Stats}
+use Rattle.event_lines.specs.declared.answer_kind.AnswerKind.{AnswerKind}
+use Rattle.event_lines.specs.declared.answer_kind.AnswerKind.TheVariants.{Ipv4, Ipv6, Https}
 use Rattle.event_lines.specs.declared.event.Event.{Event}
 use Rattle.event_lines.specs.declared.event.Event.TheVariants.{Client, Skip}
 
@@ -41,6 +47,39 @@ response_text request status age altsvc =
 abbrev pub input_text : ℕ → List ℕ → List ℕ
 input_text conn bytes = codes "input " ++ decimal conn ++ codes " " ++ encode_lower bytes
 
+-- what an answer brings: its kind, and one by one the octets of each address or record
+abbrev pub kind_of : AnswerBody → AnswerKind
+kind_of (answer.V4 addresses) = Ipv4
+kind_of (answer.V6 addresses) = Ipv6
+kind_of (answer.Https rdatas) = Https
+
+abbrev pub items_of : AnswerBody → List (List ℕ)
+items_of (answer.V4 addresses) = addresses
+items_of (answer.V6 addresses) = addresses
+items_of (answer.Https rdatas) = rdatas
+
+-- the types of DNS records, by their names in lower case (RFC 1035 3.2.2, RFC 3596 2.1, RFC 9460 9)
+abbrev pub answer_kind_text : AnswerKind → List ℕ
+answer_kind_text Ipv4 = codes "a"
+answer_kind_text Ipv6 = codes "aaaa"
+answer_kind_text Https = codes "https"
+
+-- the text of an address, or the octets of a record in lower-case hex
+abbrev pub item_text : AnswerKind → List ℕ → List ℕ
+item_text Ipv4 octets = ipv4_text octets
+item_text Ipv6 octets = v6_text octets
+item_text Https octets = encode_lower octets
+
+-- items, each behind a space
+abbrev pub items_text : (List ℕ → List ℕ) → List (List ℕ) → List ℕ
+items_text text_of [] = []
+items_text text_of (item ∷ items) = codes " " ++ text_of item ++ items_text text_of items
+
+abbrev pub answer_text : List (List ℕ) → ℕ → AnswerBody → List ℕ
+answer_text name ttl body =
+    codes "answer " ++ text_form name ++ codes " " ++ answer_kind_text (kind_of body) ++ codes " " ++ decimal ttl
+    ++ items_text (item_text (kind_of body)) (items_of body)
+
 -- a frame that came whole has no line, and so no text
 abbrev pub fact_text : Fact → List ℕ
 fact_text (Request number origin) = codes "request " ++ decimal number ++ codes " " ++ origin_text origin
@@ -50,9 +89,11 @@ fact_text (Closed conn) = codes "closed " ++ decimal conn
 fact_text (Response request status age altsvc) = response_text request status age altsvc
 fact_text (Input conn bytes) = input_text conn bytes
 fact_text (Delivered conn head payload) = []
+fact_text (Answer name ttl body) = answer_text name ttl body
 fact_text Network = codes "network"
 fact_text Tick = codes "tick"
 fact_text (Who origin) = codes "who " ++ origin_text origin
+fact_text Stats = codes "stats"
 
 -- the moment and what happened; a skipped line is empty
 abbrev pub event_text : ℕ → Event → List ℕ

@@ -5,6 +5,7 @@ use Rattle.std.specs.List.{list_all}
 use Rattle.std.specs.Char.{is_ascii_digit}
 use Rattle.std.specs.Cmp.Lexicographic.{pointwise}
 use Rattle.std.specs.Str.Parse.{digits_value}
+use Rattle.dns_names.specs.TextReading.{read_text}
 use Rattle.origin_values.specs.OriginReading.{read_origin}
 use Rattle.origin_values.specs.declared.origin.Origin.{Origin}
 use Rattle.origin_values.specs.declared.proto.Proto.{Proto}
@@ -13,6 +14,8 @@ use Rattle.coalescing.specs.NamesReading.{read_names}
 use Rattle.coalescing.specs.declared.cert_name.CertName.{CertName}
 use Rattle.hex.specs.Hex.{decode_of}
 use Rattle.event_lines.specs.Limits.{most_port, most_status}
+use Rattle.event_lines.specs.declared.answer_kind.AnswerKind.{AnswerKind}
+use Rattle.event_lines.specs.declared.answer_kind.AnswerKind.TheVariants.{Ipv4, Ipv6, Https}
 
 -- digits, at least one, and no zero before others
 abbrev pub is_number : List ℕ → Bool
@@ -58,6 +61,16 @@ origin_of text = value_of (read_origin text)
 
 abbrev pub names_of : List ℕ → Option (List CertName)
 names_of text = value_of (read_names text)
+
+-- a name of the domain name system (RFC 1035 5.1)
+abbrev pub dns_name_of : List ℕ → Option (List (List ℕ))
+dns_name_of text = value_of (read_text text)
+
+abbrev pub answer_kind_of : List ℕ → Option AnswerKind
+answer_kind_of text =
+    if pointwise nat_eq text (codes "a") then Some Ipv4
+    else (if pointwise nat_eq text (codes "aaaa") then Some Ipv6
+    else (if pointwise nat_eq text (codes "https") then Some Https else None))
 
 -- the octets of hex digits, at least one
 abbrev pub octets_of : List ℕ → Option (List ℕ)

@@ -5,6 +5,7 @@ pub mod Limits
 pub mod Fields
 pub mod ResponseGrammar
 pub mod ResponseReading
+pub mod AnswerReading
 pub mod LineReading
 pub mod Reads
 pub mod LineGrammar

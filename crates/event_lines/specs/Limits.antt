@@ -15,6 +15,10 @@ most_port = 65535
 abbrev pub most_status : ℕ
 most_status = 599
 
--- of octets that come at once
+-- of the seconds for which an answer is in force (RFC 2181 8)
+abbrev pub most_ttl : ℕ
+most_ttl = 2147483647
+
+-- of octets that come at once, or that a record has
 abbrev pub most_octets : ℕ
 most_octets = 65536

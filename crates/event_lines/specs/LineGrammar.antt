@@ -2,7 +2,8 @@
 -- `SpellsKind`.
 use Rattle.std.specs.Prelude.{◌≡◌, ◌≢◌, ◌⊎◌, ℕ, ◌≤◌, List, [], ◌∷◌, ◌++◌, length, codes, Option}
 use Rattle.std.specs.Str.Parse.{IsNumeral, digits_value}
-use Rattle.origin_values.specs.HostGrammar.{SpellsAddr}
+use Rattle.dns_names.specs.TextGrammar.{SpellsText}
+use Rattle.origin_values.specs.HostGrammar.{SpellsV4, SpellsV6, SpellsAddr}
 use Rattle.origin_values.specs.OriginGrammar.{SpellsOrigin}
 use Rattle.origin_values.specs.declared.address.Addr.{Addr}
 use Rattle.origin_values.specs.declared.origin.Origin.{Origin}
@@ -10,10 +11,13 @@ use Rattle.origin_values.specs.declared.proto.Proto.{Proto}
 use Rattle.coalescing.specs.NamesGrammar.{SpellsNames}
 use Rattle.coalescing.specs.declared.cert_name.CertName.{CertName}
 use Rattle.hex_text.specs.HexGrammar.{SpellsHex}
-use Rattle.route_events.specs.declared.fact.Fact.TheVariants.{Request, Opened, Failed, Closed, Response, Input, Delivered, Network, Tick, Who}
-use Rattle.event_lines.specs.EventTexts.{proto_text}
-use Rattle.event_lines.specs.Limits.{most_short, most_long, most_port, most_status}
+use Rattle.route_events.specs.declared.fact.Fact.TheVariants.{Request, Opened, Failed, Closed, Response, Input, Delivered, Answer, Network, Tick, Who, Stats}
+use Rattle.route_events.specs.declared.answer.AnswerBody.{AnswerBody}
+use Rattle.event_lines.specs.EventTexts.{proto_text, kind_of, items_of, answer_kind_text}
+use Rattle.event_lines.specs.Limits.{most_short, most_long, most_port, most_status, most_ttl}
 use Rattle.event_lines.specs.ResponseGrammar.{Field, SpellFields, tabbed, most_fields, HaveAge, altsvc_of}
+use Rattle.event_lines.specs.declared.answer_kind.AnswerKind.{AnswerKind}
+use Rattle.event_lines.specs.declared.answer_kind.AnswerKind.TheVariants.{Ipv4, Ipv6, Https}
 use Rattle.event_lines.specs.declared.event.Event.{Event}
 use Rattle.event_lines.specs.declared.event.Event.TheVariants.{Client, Skip}
 
@@ -48,6 +52,22 @@ SpellsProto text proto = text ≡ proto_text proto
 pub record SpellsOctets (text octets : List ℕ) : Type 0 where
   pub some : 1 ≤ length octets
   pub hex : SpellsHex text octets
+
+abbrev pub SpellsAnswerKind : List ℕ → AnswerKind → Type 0
+SpellsAnswerKind text kind = text ≡ answer_kind_text kind
+
+-- an address, or the octets of a record, which may be malformed
+abbrev pub SpellsItem : AnswerKind → List ℕ → List ℕ → Type 0
+SpellsItem Ipv4 text item = SpellsV4 text item
+SpellsItem Ipv6 text item = SpellsV6 text item
+SpellsItem Https text item = SpellsOctets text item
+
+-- each text spells its item
+abbrev pub SpellItems : AnswerKind → List (List ℕ) → List (List ℕ) → Type 0
+SpellItems kind [] [] = Unit {0}
+SpellItems kind [] (item ∷ items) = ⊥
+SpellItems kind (text ∷ texts) [] = ⊥
+SpellItems kind (text ∷ texts) (item ∷ items) = SpellsItem kind text item × SpellItems kind texts items
 
 abbrev pub NoSpace : List ℕ → Type 0
 NoSpace [] = Unit {0}
@@ -118,6 +138,17 @@ pub record SpellsInput (text : List ℕ) (conn : ℕ) (bytes : List ℕ) : Type 
   pub of_number : SpellsNumber most_long number_text conn
   pub of_bytes : SpellsOctets bytes_text bytes
 
+-- `answer NAME a|aaaa|https TTL`, and any number of items of that kind, each behind a space
+pub record SpellsAnswer (text : List ℕ) (name : List (List ℕ)) (ttl : ℕ) (body : AnswerBody) : Type 0 where
+  pub name_text : List ℕ
+  pub ttl_text : List ℕ
+  pub item_texts : List (List ℕ)
+  pub spelled : text ≡ spaced (codes "answer" ∷ name_text ∷ answer_kind_text (kind_of body) ∷ ttl_text ∷ item_texts)
+  pub apart : AreApart (name_text ∷ ttl_text ∷ item_texts)
+  pub of_name : SpellsText name_text name
+  pub of_ttl : SpellsNumber most_ttl ttl_text ttl
+  pub of_items : SpellItems (kind_of body) item_texts (items_of body)
+
 -- `who ORIGIN`
 pub record SpellsWho (text : List ℕ) (origin : Origin) : Type 0 where
   pub origin_text : List ℕ
@@ -135,9 +166,11 @@ SpellsKind text (Client (Closed conn)) = SpellsNumbered (codes "closed") text co
 SpellsKind text (Client (Response request status age altsvc)) = SpellsResponse text request status age altsvc
 SpellsKind text (Client (Input conn bytes)) = SpellsInput text conn bytes
 SpellsKind text (Client (Delivered conn head payload)) = ⊥
+SpellsKind text (Client (Answer name ttl body)) = SpellsAnswer text name ttl body
 SpellsKind text (Client Network) = text ≡ spaced (codes "network" ∷ [])
 SpellsKind text (Client Tick) = text ≡ spaced (codes "tick" ∷ [])
 SpellsKind text (Client (Who origin)) = SpellsWho text origin
+SpellsKind text (Client Stats) = text ≡ spaced (codes "stats" ∷ [])
 SpellsKind text Skip = ⊥
 
 -- an empty line, or one that begins with `#`

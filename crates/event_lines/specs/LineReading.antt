@@ -4,9 +4,10 @@ use Rattle.std.specs.Prelude.{ℕ, ◌+◌, Bool, true, nat_eq, List, [], ◌∷
 use Rattle.std.specs.Cmp.Lexicographic.{pointwise}
 use Rattle.alt_base.specs.declared.refusal.At.{At}
 use Rattle.origin_values.specs.HostReading.{read_addr}
-use Rattle.route_events.specs.declared.fact.Fact.TheVariants.{Request, Opened, Failed, Closed, Response, Input, Network, Tick, Who}
-use Rattle.event_lines.specs.Fields.{number_of, port_of, proto_of, origin_of, names_of, octets_of}
-use Rattle.event_lines.specs.Limits.{most_short, most_long}
+use Rattle.route_events.specs.declared.fact.Fact.TheVariants.{Request, Opened, Failed, Closed, Response, Input, Answer, Network, Tick, Who, Stats}
+use Rattle.event_lines.specs.AnswerReading.{items_reading}
+use Rattle.event_lines.specs.Fields.{number_of, port_of, proto_of, origin_of, names_of, octets_of, dns_name_of, answer_kind_of}
+use Rattle.event_lines.specs.Limits.{most_short, most_long, most_ttl}
 use Rattle.event_lines.specs.Parts.{Part, first_word, behind_word, refused, Reading, ◌>>=◌, next_word, value_or, field}
 use Rattle.event_lines.specs.ResponseReading.{status_reading, reply_reading}
 use Rattle.event_lines.specs.declared.event.Event.{Event}
@@ -58,6 +59,15 @@ input_fields rest = do
   bytes ← field octets_of conn.1
   Ok (Client (Input conn.0 bytes.0), bytes.1)
 
+-- `answer NAME a|aaaa|https TTL`, and what the answer brings
+abbrev pub answer_fields : Part → Reading Event
+answer_fields rest = do
+  name ← field dns_name_of rest
+  kind ← field answer_kind_of name.1
+  ttl ← field (number_of most_ttl) kind.1
+  body ← items_reading kind.0 ttl.1
+  Ok (Client (Answer name.0 ttl.0 body.0), body.1)
+
 -- `who ORIGIN`
 abbrev pub who_fields : Part → Reading Event
 who_fields rest = do
@@ -76,10 +86,12 @@ kind_reading kind rest =
     else (if is_kind kind.text (codes "closed") then closed_fields rest
     else (if is_kind kind.text (codes "response") then response_fields rest
     else (if is_kind kind.text (codes "input") then input_fields rest
+    else (if is_kind kind.text (codes "answer") then answer_fields rest
     else (if is_kind kind.text (codes "network") then Ok (Client Network, rest)
     else (if is_kind kind.text (codes "tick") then Ok (Client Tick, rest)
     else (if is_kind kind.text (codes "who") then who_fields rest
-    else refused kind.place UnknownKind))))))))
+    else (if is_kind kind.text (codes "stats") then Ok (Client Stats, rest)
+    else refused kind.place UnknownKind))))))))))
 
 -- nothing is left, or a field follows the last one
 abbrev pub nothing_at : List ℕ → ℕ → Result (Unit {0}) (At LineRefusal)

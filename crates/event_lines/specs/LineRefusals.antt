@@ -1,5 +1,6 @@
 -- The table of refusals of lines, each with its place, by how the line splits. A further kind is one case of `kinds`.
 use Rattle.std.specs.Prelude.{◌≡◌, ◌≢◌, ◌⊎◌, ℕ, ◌+◌, ◌≤◌, List, [], ◌∷◌, ◌++◌, length, codes}
+use Rattle.dns_names.specs.TextGrammar.{SpellsText}
 use Rattle.origin_values.specs.HostGrammar.{SpellsAddr}
 use Rattle.origin_values.specs.OriginGrammar.{SpellsOrigin}
 use Rattle.origin_values.specs.declared.address.Addr.{Addr}
@@ -7,10 +8,12 @@ use Rattle.origin_values.specs.declared.origin.Origin.{Origin}
 use Rattle.origin_values.specs.declared.proto.Proto.{Proto}
 use Rattle.coalescing.specs.NamesGrammar.{SpellsNames}
 use Rattle.coalescing.specs.declared.cert_name.CertName.{CertName}
-use Rattle.event_lines.specs.Limits.{most_short, most_long}
-use Rattle.event_lines.specs.LineGrammar.{SpellsNumber, SpellsPort, SpellsStatus, SpellsProto, SpellsOctets, NoSpace, IsSkipped, SpellsLine}
+use Rattle.event_lines.specs.EventTexts.{answer_kind_text}
+use Rattle.event_lines.specs.Limits.{most_short, most_long, most_ttl}
+use Rattle.event_lines.specs.LineGrammar.{SpellsNumber, SpellsPort, SpellsStatus, SpellsProto, SpellsOctets, SpellsAnswerKind, SpellsItem, SpellItems, NoSpace, AreApart, spaced, IsSkipped, SpellsLine}
 use Rattle.event_lines.specs.ResponseGrammar.{Field, is_field_byte, is_word_byte, SpellsField, SpellFields, tabbed, most_fields}
 use Rattle.field_text.specs.Runs.{AllIn, BeginsIn}
+use Rattle.event_lines.specs.declared.answer_kind.AnswerKind.{AnswerKind}
 use Rattle.event_lines.specs.declared.event.Event.{Event}
 use Rattle.event_lines.specs.declared.refusal.LineRefusal.{LineRefusal}
 use Rattle.event_lines.specs.declared.refusal.LineRefusal.TheVariants.{BadMoment, UnknownKind, BadField, ExtraField}
@@ -24,6 +27,8 @@ pub data Form : Type 0 where
   OfOrigin : Form
   OfNames : Form
   OfOctets : Form
+  OfName : Form
+  OfAnswerKind : Form
 
 -- a word is of a form
 abbrev pub HasForm : Form → List ℕ → Type 0
@@ -34,12 +39,16 @@ HasForm OfAddr word = (addr : Addr) × SpellsAddr word addr
 HasForm OfOrigin word = (origin : Origin) × SpellsOrigin word origin
 HasForm OfNames word = (names : List CertName) × SpellsNames word names
 HasForm OfOctets word = (octets : List ℕ) × SpellsOctets word octets
+HasForm OfName word = (name : List (List ℕ)) × SpellsText word name
+HasForm OfAnswerKind word = (kind : AnswerKind) × SpellsAnswerKind word kind
 
--- words of these forms in order, and behind them nothing, or a status and the fields of a response
+-- words of these forms in order, and behind them nothing, or a status and the fields of a response, or the kind of an answer,
+-- its TTL and what it brings
 pub data Forms : Type 0 where
   NoMore : Forms
   Then : (form : Form) → (more : Forms) → Forms
   StatusAndFields : Forms
+  KindAndItems : Forms
 
 -- the kinds, each with the forms of its fields
 pub record Kind : Type 0 where
@@ -54,9 +63,11 @@ kinds =
     ∷ record { name = codes "closed"; forms = Then (OfNumber most_long) NoMore }
     ∷ record { name = codes "response"; forms = Then (OfNumber most_short) StatusAndFields }
     ∷ record { name = codes "input"; forms = Then (OfNumber most_long) (Then OfOctets NoMore) }
+    ∷ record { name = codes "answer"; forms = Then OfName KindAndItems }
     ∷ record { name = codes "network"; forms = NoMore }
     ∷ record { name = codes "tick"; forms = NoMore }
     ∷ record { name = codes "who"; forms = Then OfOrigin NoMore }
+    ∷ record { name = codes "stats"; forms = NoMore }
     ∷ []
 
 -- the first kind of this name has fields of these forms
@@ -165,11 +176,48 @@ StatusRefusedAt begin text place reason =
     ⊎ (IsBadStatus begin text place reason
     ⊎ (IsExtraBehindStatus begin text place reason ⊎ IsBadResponseField begin text place reason))
 
+-- the first word that is no item of the kind, behind words that are: the place is its first byte
+pub record IsBadItem (kind : AnswerKind) (begin : ℕ) (text : List ℕ) (place : ℕ) (reason : LineRefusal) : Type 0 where
+  pub good : List (List ℕ)
+  pub items : List (List ℕ)
+  pub word : List ℕ
+  pub behind : List ℕ
+  pub spelled : text ≡ spaced good ++ 32 ∷ (word ++ behind)
+  pub good_apart : AreApart good
+  pub apart : NoSpace word
+  pub end : EndsWord behind
+  pub of_good : SpellItems kind good items
+  pub bad : (item : List ℕ) → ¬ (SpellsItem kind word item)
+  pub at : place ≡ begin + length (spaced good) + 1
+  pub why : reason ≡ BadField
+
+-- a TTL and items of a kind are to stand in a text that begins at this place
+abbrev pub TtlRefusedAt : AnswerKind → ℕ → List ℕ → ℕ → LineRefusal → Type 0
+TtlRefusedAt kind begin text place reason =
+    IsMissing begin text place reason
+    ⊎ (IsBad (OfNumber most_ttl) begin text place reason
+    ⊎ IsBehind (OfNumber most_ttl) begin text (λ next rest. IsBadItem kind next rest place reason))
+
+-- the next word is that of a kind of answers, and what holds of what stands behind it
+pub record IsBehindKind (begin : ℕ) (text : List ℕ) (Holds : AnswerKind → ℕ → List ℕ → Type 0) : Type 0 where
+  pub kind : AnswerKind
+  pub behind : List ℕ
+  pub next : IsNext text (answer_kind_text kind) behind
+  pub later : Holds kind (begin + 1 + length (answer_kind_text kind)) behind
+
+-- a kind of answers, a TTL and items are to stand in a text that begins at this place
+abbrev pub KindRefusedAt : ℕ → List ℕ → ℕ → LineRefusal → Type 0
+KindRefusedAt begin text place reason =
+    IsMissing begin text place reason
+    ⊎ (IsBad OfAnswerKind begin text place reason
+    ⊎ IsBehindKind begin text (λ kind next rest. TtlRefusedAt kind next rest place reason))
+
 -- fields of these forms are to stand in a text that begins at this place, and from left to right this is the first
 -- that is wrong
 abbrev pub FieldsRefusedAt : Forms → ℕ → List ℕ → ℕ → LineRefusal → Type 0
 FieldsRefusedAt NoMore begin text place reason = IsExtra begin text place reason
 FieldsRefusedAt StatusAndFields begin text place reason = StatusRefusedAt begin text place reason
+FieldsRefusedAt KindAndItems begin text place reason = KindRefusedAt begin text place reason
 FieldsRefusedAt (Then form forms) begin text place reason =
     IsMissing begin text place reason
     ⊎ (IsBad form begin text place reason

@@ -1,11 +1,12 @@
-ghost use Rattle.std.specs.Prelude.{◌≡◌, ◌++◌, IfOk, OnOk};
-ghost use Rattle.event_lines.specs.ActionTexts.{action_text, stream_text, alt_used_text, authority_text, open_text, send_text, close_text, alternatives_text, ignored_field_text, frame_text, ignored_text, origins_text, numbers_text, conns_text, who_text};
+ghost use Rattle.std.specs.Prelude.{◌≡◌, ◌++◌, IfOk, OnOk, decimal};
+ghost use Rattle.event_lines.specs.ActionTexts.{action_text, stream_text, alt_used_text, authority_text, open_text, send_text, close_text, alternatives_text, ignored_field_text, frame_text, ignored_text, origins_text, malformed_text, numbers_text, conns_text, who_text, stats_text};
 
 use crate::pieces::{append, append_number};
 use crate::protocols::protos_text;
 use crate::route_words::{route_host, route_port, route_text};
 use alt_base::{Bytes, ListOf, NoMemory};
 use altsvc_grammar::{AltSvc, write};
+use dns_names::Name;
 use origin_values::{Host, Origin};
 use route_events::{Action, Route, protocols_of};
 use std::alloc::Global;
@@ -15,12 +16,14 @@ const PLAIN_PORT: u16 = 443;
 /// The kind of an ALTSVC frame (RFC 7838 4).
 const ALTSVC: u8 = 10;
 
-/// The line of an action, without a newline: `open A ORIGIN KIND PROTOS HOST PORT`, of kind `direct` or `alt`, with the
-/// protocols in the order h2, h3, http/1.1 and the host and port that the route goes to; `send Q on C`, with ` stream S`
+/// The line of an action, without a newline: `open A ORIGIN KIND PROTOS HOST PORT`, of kind `direct`, `alt` or `rec`, with the
+/// protocols in the order h2, h3, http/1.1 and the host and port that the route goes to, the host of an endpoint as the text of a
+/// name (RFC 1035 5.1); `send Q on C`, with ` stream S`
 /// on HTTP/2 and ` alt-used X` where an alternative is told to the server (RFC 7838 5); `refuse Q`; `lost Q`; `retry Q`;
 /// `close C frame LENGTH`; `alternatives ORIGIN VALUE` with the canonical text of a value of Alt-Svc (RFC 7838 3);
 /// `field Q R PLACE`; `ignored C altsvc R PLACE` or `ignored C origin R PLACE`; `origins C TAKEN SKIPPED`;
-/// `who ORIGIN C C` with each connection behind one space, or ` none` in their place. Numbers are decimal.
+/// `malformed NAME I R PLACE`; `who ORIGIN C C` with each connection behind one space, or ` none` in their place;
+/// `stats alternatives A answers N broken B connections C waiting W`. Numbers are decimal.
 pub fn write_action(alloc: Global, action: &Action) -> Result<Bytes, NoMemory>
     ensures { IfOk result (λ line. line ≡ action_text action.now) }
 {
@@ -73,7 +76,28 @@ pub fn write_action(alloc: Global, action: &Action) -> Result<Bytes, NoMemory>
             taken,
             skipped,
         } => append_origins(&mut line, alloc, *conn, *taken, *skipped)?,
+        Action::Malformed {
+            name,
+            item,
+            reason,
+            place,
+        } => append_malformed(&mut line, alloc, name, *item, *reason, *place)?,
         Action::Who { origin, conns } => { append_who(&mut line, alloc, origin, conns.as_slice())? }
+        Action::Stats {
+            alternatives,
+            answers,
+            broken,
+            connections,
+            waiting,
+        } => append_stats(
+            &mut line,
+            alloc,
+            *alternatives,
+            *answers,
+            *broken,
+            *connections,
+            *waiting,
+        )?,
     }
     Ok(ListOf::from_vec(line))
 }
@@ -96,7 +120,7 @@ fn append_open(
     append(line, b" ")?;
     append(line, protos_text(protocols_of(origin.scheme, route)))?;
     append(line, b" ")?;
-    append(line, route_host(route, origin).write(alloc)?.as_slice())?;
+    append(line, route_host(alloc, route, origin)?.as_slice())?;
     append(line, b" ")?;
     append_number(line, alloc, u64::from(route_port(route, origin)))
 }
@@ -236,6 +260,52 @@ fn append_origins(
     append_number(line, alloc, u64::from(taken))?;
     append(line, b" ")?;
     append_number(line, alloc, u64::from(skipped))
+}
+
+fn append_malformed(
+    line: &mut Vec<u8>,
+    alloc: Global,
+    name: &Name,
+    item: u64,
+    reason: u8,
+    place: u32,
+) -> Result<(), NoMemory>
+    ensures { OnOk result (line.new.items ≡ line.old.items ++ malformed_text name.now item reason place) }
+{
+    append(line, b"malformed ")?;
+    append(line, name.to_text(alloc)?.as_slice())?;
+    append(line, b" ")?;
+    append_number(line, alloc, item)?;
+    append(line, b" ")?;
+    append_number(line, alloc, u64::from(reason))?;
+    append(line, b" ")?;
+    append_number(line, alloc, u64::from(place))
+}
+
+fn append_stats(
+    line: &mut Vec<u8>,
+    alloc: Global,
+    alternatives: u64,
+    answers: u64,
+    broken: u64,
+    connections: u64,
+    waiting: u64,
+) -> Result<(), NoMemory>
+    ensures { OnOk result (line.new.items ≡ line.old.items ++ stats_text alternatives answers broken connections waiting) }
+{
+    append_count(line, alloc, b"stats alternatives ", alternatives)?;
+    append_count(line, alloc, b" answers ", answers)?;
+    append_count(line, alloc, b" broken ", broken)?;
+    append_count(line, alloc, b" connections ", connections)?;
+    append_count(line, alloc, b" waiting ", waiting)
+}
+
+// Appends a number behind its name.
+fn append_count(line: &mut Vec<u8>, alloc: Global, name: &[u8], count: u64) -> Result<(), NoMemory>
+    ensures { OnOk result (line.new.items ≡ line.old.items ++ (name.now ++ decimal count)) }
+{
+    append(line, name)?;
+    append_number(line, alloc, count)
 }
 
 fn append_who(

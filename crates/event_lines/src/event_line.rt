@@ -3,6 +3,7 @@ ghost use Rattle.event_lines.specs.EventTexts.{proto_text, opened_text, age_text
 ghost use Rattle.event_lines.specs.HaveLines.{HasText};
 
 use crate::Event;
+use crate::answer_line::append_answer;
 use crate::pieces::{append, append_number};
 use alt_base::{Bytes, ListOf, Moment, NoMemory};
 use coalescing::{CertNames, write_names};
@@ -11,8 +12,8 @@ use route_events::Fact;
 use std::alloc::Global;
 
 /// The line of an event, without a newline: the moment, a space, and what happened, as `read_line` reads it. The line
-/// of a skipped one is empty, whatever the moment. Octets are written in lower-case hex. A frame that came whole has no
-/// line.
+/// of a skipped one is empty, whatever the moment. Octets are written in lower-case hex, the name of an answer with its
+/// final dot. A frame that came whole has no line.
 pub fn write_event(alloc: Global, now: Moment, event: &Event) -> Result<Bytes, NoMemory>
     requires { HasText event.now }
     ensures { IfOk result (λ line. line ≡ event_text now.0 event.now) }
@@ -62,12 +63,14 @@ fn append_fact(line: &mut Vec<u8>, alloc: Global, fact: &Fact) -> Result<(), NoM
         } => append_response(line, alloc, *request, *status, *age, altsvc),
         Fact::Input { conn, bytes } => append_input(line, alloc, *conn, bytes.as_slice()),
         Fact::Delivered { .. } => Ok(()),
+        Fact::Answer { name, ttl, body } => append_answer(line, alloc, name, *ttl, body),
         Fact::Network => append(line, b"network"),
         Fact::Tick => append(line, b"tick"),
         Fact::Who { origin } => {
             append(line, b"who ")?;
             append(line, origin.write(alloc)?.as_slice())
         }
+        Fact::Stats => append(line, b"stats"),
     }
 }
 

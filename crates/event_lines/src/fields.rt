@@ -1,9 +1,11 @@
 ghost use Rattle.std.specs.Prelude.{◌≡◌, ◌<◌, ◌^◌, length, IfOk};
-ghost use Rattle.event_lines.specs.Fields.{port_of, status_of, proto_of, origin_of, names_of, octets_of};
+ghost use Rattle.event_lines.specs.Fields.{port_of, status_of, proto_of, origin_of, names_of, octets_of, dns_name_of, answer_kind_of};
 
+use crate::answer_kind::AnswerKind;
 use crate::number::number_of;
 use alt_base::{Bytes, ListOf, NoMemory, Refused};
 use coalescing::{CertNames, parse_names};
+use dns_names::Name;
 use hex::FromHexError;
 use origin_values::{Origin, Proto};
 use std::alloc::Global;
@@ -76,6 +78,33 @@ pub(crate) fn names_of(alloc: Global, text: &[u8]) -> Result<Option<CertNames>, 
         Ok(names) => Ok(Some(names)),
         Err(Refused::NoMemory) => Err(NoMemory),
         Err(Refused::At { .. }) => Ok(None),
+    }
+}
+
+// The name of DNS that a text spells, if it spells one.
+pub(crate) fn dns_name_of(alloc: Global, text: &[u8]) -> Result<Option<Name>, NoMemory>
+    requires { length text.now < 2 ^ 32 }
+    ensures { IfOk result (λ name. name ≡ dns_name_of text.now) }
+{
+    match Name::from_text(alloc, text) {
+        Ok(name) => Ok(Some(name)),
+        Err(Refused::NoMemory) => Err(NoMemory),
+        Err(Refused::At { .. }) => Ok(None),
+    }
+}
+
+// The kind of an answer.
+pub(crate) fn answer_kind_of(text: &[u8]) -> Option<AnswerKind>
+    ensures { result ≡ answer_kind_of text.now }
+{
+    if text == b"a".as_slice() {
+        Some(AnswerKind::Ipv4)
+    } else if text == b"aaaa".as_slice() {
+        Some(AnswerKind::Ipv6)
+    } else if text == b"https".as_slice() {
+        Some(AnswerKind::Https)
+    } else {
+        None
     }
 }
 

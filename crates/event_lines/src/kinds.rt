@@ -1,4 +1,4 @@
-ghost use Rattle.event_lines.specs.LineReading.{request_fields, opened_fields, failed_fields, closed_fields, response_fields, input_fields, who_fields, kind_reading};
+ghost use Rattle.event_lines.specs.LineReading.{request_fields, opened_fields, failed_fields, closed_fields, response_fields, input_fields, answer_fields, who_fields, kind_reading};
 ghost use Rattle.event_lines.specs.Reads.{Reads, MayRead};
 
 use crate::line_reader::LineReader;
@@ -28,12 +28,16 @@ pub(crate) fn read_kind(
         read_response(alloc, reader)
     } else if kind.text == b"input".as_slice() {
         read_input(alloc, reader)
+    } else if kind.text == b"answer".as_slice() {
+        read_answer(alloc, reader)
     } else if kind.text == b"network".as_slice() {
         Ok(Event::Client(Fact::Network))
     } else if kind.text == b"tick".as_slice() {
         Ok(Event::Client(Fact::Tick))
     } else if kind.text == b"who".as_slice() {
         read_who(alloc, reader)
+    } else if kind.text == b"stats".as_slice() {
+        Ok(Event::Client(Fact::Stats))
     } else {
         Err(Refused::At {
             place: kind.place,
@@ -107,6 +111,17 @@ fn read_input(alloc: Global, reader: &mut LineReader) -> Result<Event, Refused<L
     let conn = reader.long_number()?;
     let bytes = reader.octets(alloc)?;
     Ok(Event::Client(Fact::Input { conn, bytes }))
+}
+
+// `answer NAME a|aaaa|https TTL`, and what the answer brings
+fn read_answer(alloc: Global, reader: &mut LineReader) -> Result<Event, Refused<LineRefusal>>
+    ensures { MayRead result reader.new (answer_fields reader.old) }
+{
+    let name = reader.dns_name(alloc)?;
+    let kind = reader.answer_kind()?;
+    let ttl = reader.ttl()?;
+    let body = reader.items(alloc, kind)?;
+    Ok(Event::Client(Fact::Answer { name, ttl, body }))
 }
 
 // `who ORIGIN`

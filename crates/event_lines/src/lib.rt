@@ -4,6 +4,9 @@
 mod action_line;
 #[cfg(test)]
 mod action_tests;
+mod answer_items;
+mod answer_kind;
+mod answer_line;
 mod event;
 mod event_line;
 mod fields;

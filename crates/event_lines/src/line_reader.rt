@@ -1,7 +1,8 @@
 ghost use Rattle.std.specs.Prelude.{◌≡◌, ◌≤◌, ◌<◌, ◌^◌, length};
 ghost use Rattle.event_lines.specs.Parts.{before_space, first_word, behind_word, next_word, field};
-ghost use Rattle.event_lines.specs.Fields.{number_of, port_of, proto_of, origin_of, names_of, octets_of};
-ghost use Rattle.event_lines.specs.Limits.{most_short, most_long};
+ghost use Rattle.event_lines.specs.Fields.{number_of, port_of, proto_of, origin_of, names_of, octets_of, dns_name_of, answer_kind_of};
+ghost use Rattle.event_lines.specs.AnswerReading.{items_reading};
+ghost use Rattle.event_lines.specs.Limits.{most_short, most_long, most_ttl};
 ghost use Rattle.event_lines.specs.LineReading.{moment_reading, end_reading};
 ghost use Rattle.event_lines.specs.Reads.{Reads, MayRead};
 ghost use Rattle.event_lines.specs.ResponseGrammar.{is_word_byte};
@@ -10,13 +11,19 @@ ghost use Rattle.field_text.specs.Runs.{run_of};
 ghost use Rattle.origin_values.specs.HostReading.{read_addr};
 
 use crate::LineRefusal;
-use crate::fields::{names_of, octets_of, origin_of, port_of, proto_of, status_of};
+use crate::answer_items::read_items;
+use crate::answer_kind::AnswerKind;
+use crate::fields::{
+    answer_kind_of, dns_name_of, names_of, octets_of, origin_of, port_of, proto_of, status_of,
+};
 use crate::number::number_of;
 use crate::part::Part;
 use crate::response::{Reply, read_fields};
 use alt_base::{At, Bytes, Refused};
 use coalescing::CertNames;
+use dns_names::Name;
 use origin_values::{Addr, Origin, Proto};
+use route_events::AnswerBody;
 use std::alloc::Global;
 use std::marker::Model;
 
@@ -24,6 +31,8 @@ use std::marker::Model;
 const MOST_SHORT: u64 = 4_294_967_295;
 /// The greatest number of an attempt or a connection.
 const MOST_LONG: u64 = 18_446_744_073_709_551_615;
+/// The greatest TTL (RFC 2181 8).
+const MOST_TTL: u64 = 2_147_483_647;
 
 /// Reads a line from left to right. To a contract it is what is left of the line, and the place where that begins.
 #[derive(Drop)]
@@ -169,6 +178,50 @@ impl<'a> LineReader<'a> {
         }
     }
 
+    // A name of DNS.
+    pub(crate) fn dns_name(&mut self, alloc: Global) -> Result<Name, Refused<LineRefusal>>
+        ensures { MayRead result self.new (field dns_name_of self.old) }
+    {
+        let word = self.next_word(LineRefusal::BadField)?;
+        match dns_name_of(alloc, word.text)? {
+            Some(name) => Ok(name),
+            None => Err(Refused::from(bad_field(word.place))),
+        }
+    }
+
+    pub(crate) fn answer_kind(&mut self) -> Result<AnswerKind, At<LineRefusal>>
+        ensures { Reads result self.new (field answer_kind_of self.old) }
+    {
+        let word = self.next_word(LineRefusal::BadField)?;
+        answer_kind_of(word.text).ok_or(bad_field(word.place))
+    }
+
+    // The TTL of an answer.
+    pub(crate) fn ttl(&mut self) -> Result<u32, At<LineRefusal>>
+        ensures { Reads result self.new (field (number_of most_ttl) self.old) }
+    {
+        let word = self.next_word(LineRefusal::BadField)?;
+        match number_of(word.text, MOST_TTL) {
+            Some(number) => Ok(number as u32),
+            None => Err(bad_field(word.place)),
+        }
+    }
+
+    // What an answer of a kind brings: all words that are left.
+    pub(crate) fn items(
+        &mut self,
+        alloc: Global,
+        kind: AnswerKind,
+    ) -> Result<AnswerBody, Refused<LineRefusal>>
+        ensures { MayRead result self.new (items_reading kind self.old) }
+    {
+        let text = self.rest;
+        let place = self.place;
+        self.rest = &text[text.len()..];
+        self.place += text.len() as u32;
+        read_items(alloc, kind, text, place)
+    }
+
     // The word in front: what stands before the first space or tab, or the end.
     fn short_word(&mut self) -> Part<'a>
         ensures word { result ≡ short_word self.old }
@@ -244,7 +297,7 @@ pub(crate) fn bad_field(place: u32) -> At<LineRefusal>
 }
 
 // How many bytes stand before the first space, or the end.
-fn word_length(text: &[u8]) -> usize
+pub(crate) fn word_length(text: &[u8]) -> usize
     ensures value { result ≡ length (before_space text.now) }
     ensures within { result ≤ length text.now }
 {

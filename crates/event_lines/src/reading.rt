@@ -23,17 +23,22 @@ use std::alloc::Global;
 ///   whose spaces at both ends are dropped (RFC 9110 5). The seconds of the first Age field (RFC 9111 5.1) and the values
 ///   of the Alt-Svc fields (RFC 7838 3), joined by a comma and a space, are kept, and no other field;
 /// - `input C HEX`: octets of the server came on connection C, two hex digits of either case for each, at least one octet;
+/// - `answer NAME a TTL`, `answer NAME aaaa TTL` or `answer NAME https TTL`: a DNS answer came for a name, and is in force for
+///   so many seconds, at most 2^31 - 1. Behind it stands what it brings, each behind one space: addresses of IPv4, addresses of
+///   IPv6, or the octets of HTTPS records, two hex digits for each, at least one octet;
 /// - `network`: the network changed;
 /// - `tick`: nothing but that time has come so far;
-/// - `who ORIGIN`: which connections are authoritative for an origin is asked.
+/// - `who ORIGIN`: which connections are authoritative for an origin is asked;
+/// - `stats`: how much of each there is, is asked.
 ///
 /// A number has no leading zero. Moments and numbers of requests have 32 bits, those of attempts and connections 64. No
-/// line says that a frame came whole: the rules make it of octets, of which a line has at most 65,536.
+/// line says that a frame came whole: the rules make it of octets, of which a line has at most 65,536, as has each record.
 ///
 /// Refused, with the fields tried from left to right: `BadMoment` at 0 where what stands before the first space is no
 /// moment; `UnknownKind` at the kind, or at the length where it is missing; `BadField` at the first field that isn't of
 /// its form, or at the length where it is missing, and at the 65th field of a response; `ExtraField` behind the space that
-/// follows the last field, or the status of a response.
+/// follows the last field, or the status of a response. What an answer brings ends at the line's end, so that a space there is
+/// `BadField` at the length.
 pub fn read_line(alloc: Global, line: &[u8]) -> Result<(Moment, Event), Refused<LineRefusal>>
     requires { length line.now ≤ 65536 }
     ensures reading { IsRead result (line_reading line.now) }
