@@ -89,8 +89,10 @@ class Placing:
             return event.kind == "response" and event.fields[0] == words[1]
         if words[0] == "lost":
             return event.kind in ("closed", "input")
-        if words[0] == "who":
-            return event.kind == "who" and not event.actions
+        if words[0] in ("who", "stats"):
+            return event.kind == words[0] and not event.actions
+        if words[0] == "malformed":
+            return event.kind == "answer" and not event.actions
         return self.told[:1] == [TELLING.get(words[2] if words[0] == "ignored" else words[0])]
 
     def act(self, words):

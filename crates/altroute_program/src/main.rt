@@ -51,6 +51,8 @@ fn main(rt: HostRuntime) -> ExitCode {
 #[cfg(test)]
 mod alternative_tests;
 #[cfg(test)]
+mod answer_tests;
+#[cfg(test)]
 mod frame_tests;
 #[cfg(test)]
 mod input_tests;
