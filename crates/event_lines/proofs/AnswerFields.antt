@@ -110,13 +110,17 @@ words_joined : (text whole n behind k left t rest : List ℕ) (texts : List (Lis
 words_joined text whole n behind k left t rest texts is next_n next_k next_t more =
     behind_kind (codes "answer") text whole (n ∷ k ∷ t ∷ texts) is (joined text n behind (k ∷ t ∷ texts) next_n (joined behind k left (t ∷ texts) next_k (joined left t rest texts next_t more)))
 
+event_made : (kind : AnswerKind) (whole n k t : List ℕ) (texts items : List (List ℕ)) (name : Name) (ttl : ℕ) (event : Event) → Client (Answer name ttl (body_of kind items)) ≡ event → whole ≡ spaced (codes "answer" ∷ n ∷ k ∷ t ∷ texts) → k ≡ answer_kind_text kind
+    → AreApart (n ∷ t ∷ texts) → SpellsText n name → SpellsNumber most_ttl t ttl → SpellItems kind texts items → SpellsKind whole event
+event_made kind whole n k t texts items name ttl event same spelled named apart of_name of_ttl of_items =
+    subst (SpellsKind whole) same (answer_made kind whole n t texts items name ttl (kind_named whole n k t texts kind spelled named) apart of_name of_ttl of_items)
+
 pub answer_sound : (text whole : List ℕ) (place : ℕ) (event : Event) (left : Part) → whole ≡ 32 ∷ (codes "answer" ++ text) → EndsWord text → answer_fields (part text place) ≡ got event left → left.text ≡ [] → SpellsKind whole event
 answer_sound text whole place event left is ends h none =
     let n = field_found dns_name_of answer_name text place (event, left) ends h in
     let k = field_found answer_kind_of (answer_kind n.value) n.behind (place + 1 + length n.word) (event, left) n.is_next.end n.then_is in
     let t = field_found (number_of most_ttl) (answer_ttl n.value k.value) k.behind (place + 1 + length n.word + 1 + length k.word) (event, left) k.is_next.end k.then_is in
     let b = items_found n.value t.value k.value t.behind (place + 1 + length n.word + 1 + length k.word + 1 + length t.word) event left t.is_next.end t.then_is in
-    subst (SpellsKind whole) b.same
-    (answer_made k.value whole n.word t.word b.texts b.items n.value t.value
-    (kind_named whole n.word k.word t.word b.texts k.value (words_joined text whole n.word n.behind k.word k.behind t.word t.behind b.texts is n.is_next k.is_next t.is_next b.spelled) (answer_kind_sound k.word k.value k.is_read))
-    (n.is_next.apart, (t.is_next.apart, b.apart)) (dns_name_sound n.word n.value n.is_read) (number_sound most_ttl t.word t.value t.is_read) b.of_items)
+    event_made k.value whole n.word k.word t.word b.texts b.items n.value t.value event b.same
+    (words_joined text whole n.word n.behind k.word k.behind t.word t.behind b.texts is n.is_next k.is_next t.is_next b.spelled) (answer_kind_sound k.word k.value k.is_read) (n.is_next.apart, (t.is_next.apart, b.apart))
+    (dns_name_sound n.word n.value n.is_read) (number_sound most_ttl t.word t.value t.is_read) b.of_items

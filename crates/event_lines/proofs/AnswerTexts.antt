@@ -1,12 +1,12 @@
 -- Where what follows the name of an answer is refused: its kind, its TTL, and what it brings.
-use Rattle.std.proofs.Common.{◌≡◌, ℕ, ◌+◌, Bool, false, List, [], ◌∷◌, ◌++◌, length, Option, Some, None, Result, Ok, Err, refl, ap, sym, ◌∙◌, subst, inl, inr}
+use Rattle.std.proofs.Common.{◌≡◌, ℕ, ◌+◌, false, List, [], ◌∷◌, ◌++◌, length, Option, Some, None, Result, Ok, Err, refl, ap, sym, ◌∙◌, subst, inl, inr}
 use Rattle.alt_base.specs.declared.refusal.At.{At}
 use Rattle.route_events.specs.declared.answer.AnswerBody.{AnswerBody}
 use Rattle.event_lines.specs.AnswerReading.{item_of, body_of, words_behind, Items, items_from, items_reading}
 use Rattle.event_lines.specs.EventTexts.{answer_kind_text}
 use Rattle.event_lines.specs.Fields.{number_of, answer_kind_of}
 use Rattle.event_lines.specs.Limits.{most_ttl}
-use Rattle.event_lines.specs.Parts.{Part, Reading, ◌>>=◌, value_or, field, refused}
+use Rattle.event_lines.specs.Parts.{Part, Reading, ◌>>=◌, value_or, field}
 use Rattle.event_lines.specs.LineReading.{end_reading}
 use Rattle.event_lines.specs.LineGrammar.{AreApart, spaced}
 use Rattle.event_lines.specs.LineRefusals.{OfNumber, OfAnswerKind, EndsWord, IsNext, IsBadItem, TtlRefusedAt, KindRefusedAt}

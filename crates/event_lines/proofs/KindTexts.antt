@@ -1,5 +1,5 @@
 -- Each kind's fields against the grammar. A further kind is a case of `kind_complete` and one of `kind_sound`.
-use Rattle.std.proofs.Common.{◌≡◌, ℕ, ◌+◌, Bool, true, false, cond, nat_eq, List, [], ◌∷◌, ◌++◌, length, codes, Option, Some, None, Ok, unwrap_or, ◌≤◌, append_assoc, append-nil, refl, ap, sym, ◌∙◌, subst}
+use Rattle.std.proofs.Common.{◌≡◌, ℕ, ◌+◌, Bool, true, false, cond, nat_eq, List, [], ◌∷◌, ◌++◌, length, codes, Some, unwrap_or, ◌≤◌, append_assoc, append-nil, refl, ap, sym, ◌∙◌, subst}
 use Rattle.std.specs.Cmp.Lexicographic.{pointwise, same_text}
 use Rattle.origin_values.specs.HostReading.{read_addr}
 use Rattle.origin_values.specs.declared.address.Addr.{Addr}
