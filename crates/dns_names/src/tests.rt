@@ -143,5 +143,8 @@ fn equal_names(rt: HostRuntime) -> Result<(), Fail> {
     assert!(rt; twin == name);
     assert!(rt; other != name);
     assert_eq!(rt; other.labels().len(), 2);
+    assert!(rt; Name::spelled_by(rt.alloc(), b"a.EXAMPLE.")? == Some(twin));
+    assert!(rt; Name::spelled_by(rt.alloc(), b"a..example")?.is_none());
+    assert!(rt; Name::spelled_by(rt.alloc(), &[b'a'; 2000])?.is_none());
     Ok(())
 }
