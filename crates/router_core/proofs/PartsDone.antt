@@ -27,8 +27,8 @@ use Rattle.route_events.specs.Step.{refusal, with_part, with_fact, effects, cut_
 use Rattle.route_events.proofs.Deliveries.{drop_front}
 use Rattle.route_events.proofs.Lists.{IsIn, AreApart, apart_filter}
 use Rattle.route_events.proofs.Sound.{Sound, not_earlier, above_newest, opened_pending, failed_pending, closed_open, used_of, sound_cut, IsStarted, started_of}
-use Rattle.route_events.proofs.Settles.{Settles, AreEffects, effected}
-use Rattle.route_events.proofs.Runs.{all_settled, are_effects, waiting_in}
+use Rattle.route_events.proofs.Settles.{Settles, effected}
+use Rattle.route_events.proofs.Runs.{all_settled, are_effects, are_lost, waiting_in}
 use Rattle.request_dispatch.specs.declared.step_state.StepState.{StepState}
 use Rattle.request_dispatch.specs.declared.waiting.Waiting.{Waiting}
 use Rattle.request_dispatch.specs.AttemptTable.{attempt_among, other_attempts}
@@ -321,10 +321,6 @@ part_done old new j now f h before knows sound rise later comes becomes =
     (told_is old.answers new.answers j now f h (effects j now f) knows.answers later becomes.answers)
 
 -- a connection that is cut
-
-are_lost : (qs : List ℕ) → AreEffects (map Lost qs)
-are_lost [] = tt
-are_lost (q ∷ qs) = (tt, are_lost qs)
 
 tried_cut : (j : Journal) (now c count : ℕ) (ws : List Waiting) → AreTried j ws → AreTried (Cut now c count ∷ j) ws
 tried_cut j now c count [] h = tt

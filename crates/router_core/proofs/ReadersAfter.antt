@@ -1,5 +1,5 @@
 -- What the readers have read, after a step.
-use Rattle.std.proofs.Common.{◌≡◌, ℕ, Bool, true, false, cond, not, ◌&&◌, ◌||◌, nat_eq, nat_lt, List, [], ◌∷◌, ◌++◌, find, Option, Some, None, is_some, refl, ap, sym, ◌∙◌, subst, true≢false}
+use Rattle.std.proofs.Common.{◌≡◌, ℕ, Bool, true, false, cond, not, ◌&&◌, ◌||◌, nat_eq, List, [], ◌∷◌, ◌++◌, find, Option, Some, None, is_some, refl, ap, sym, ◌∙◌, subst, true≢false}
 use Rattle.std.specs.List.{list_any, flat_map}
 use Rattle.alt_base.proofs.Numbers.{true_eq, eq_self}
 use Rattle.alt_base.proofs.Booleans.{contradicts}
@@ -15,15 +15,16 @@ use Rattle.frame_readers.proofs.Tables.{reads_empty, none_left, others_left}
 use Rattle.route_events.specs.declared.connection.Connection.{Connection}
 use Rattle.route_events.specs.declared.fact.Fact.{Fact}
 use Rattle.route_events.specs.declared.fact.Fact.TheVariants as fact
-use Rattle.route_events.specs.Journal.{Happened, Journal, step_count, newest_moment}
+use Rattle.route_events.specs.Journal.{Happened, Journal}
 use Rattle.route_events.specs.Attempts.{has_ended}
-use Rattle.route_events.specs.Connections.{connections, closes, open_connection, is_open_number}
+use Rattle.route_events.specs.Connections.{connections, closes, is_open_number}
 use Rattle.route_events.specs.Frames.{octets_on, delivery, cut_by}
-use Rattle.route_events.specs.Step.{IsRun, Begun, Stepped, refusal, frame_refusal, parts_behind, step}
+use Rattle.route_events.specs.Step.{IsRun, Begun, Stepped, refusal, parts_behind, step}
 use Rattle.route_events.proofs.Deliveries.{brought}
 use Rattle.route_events.proofs.PartsKeep.{octets_step, octets_input}
+use Rattle.route_events.proofs.GoingOn.{earlier}
 use Rattle.route_events.proofs.Runs.{each}
-use Rattle.route_events.proofs.Sound.{not_earlier, opened_pending, IsStarted, started_of, used_of}
+use Rattle.route_events.proofs.Sound.{opened_pending, IsStarted, started_of, used_of, input_open}
 use Rattle.router_core.specs.Holds.{AreRead}
 use Rattle.router_core.specs.StepBecomes.{IsRead, IsBrought}
 use Rattle.router_core.proofs.OpenAfter.{was_made, open_where, open_same, connections_step, closes_step, ended_step}
@@ -33,17 +34,6 @@ pub none_read : AreRead [] []
 none_read = record { octets = λ n h. absurd (true≢false (sym h)); no_other = λ n h. refl }
 
 -- octets come on open connections alone
-
-pub input_open : (j : Journal) (now c : ℕ) (bytes : List ℕ) → refusal j now (fact.Input c bytes) ≡ None → is_open_number j c ≡ true
-input_open j now c bytes free = by_found (open_connection j c) (not_earlier (nat_lt now (newest_moment j)) _ _ (not_earlier (nat_eq (step_count j) 16777215) _ _ free))
-  where
-    by_found : (w : Option Connection) → frame_refusal w ≡ None → is_some w ≡ true
-    by_found None e = absurd (true≢false (ap is_some e))
-    by_found (Some x) e = refl
-
-earlier : (b c : Bool) → (b ≡ true → c ≡ true) → c ≡ false → b ≡ false
-earlier true c h e = absurd (true≢false (sym (h refl) ∙ e))
-earlier false c h e = refl
 
 abbrev pub NoneCame : Journal → Type 0
 NoneCame j = (n : ℕ) → has_ended j n ≡ false → octets_on j n ≡ []

@@ -28,6 +28,7 @@ use Rattle.route_events.specs.Dispatch.{carriers}
 use Rattle.route_events.specs.Frames.{delivery, cut_by}
 use Rattle.route_events.specs.Step.{Stepped, refusal, with_actions, with_fact, settled, follow, parts_of, answer_to, newest_actions, step}
 use Rattle.route_events.proofs.PartsKeep.{follow_append, moment_settled}
+use Rattle.route_events.proofs.Sound.{input_open}
 use Rattle.route_events.proofs.Runs.{each}
 use Rattle.request_dispatch.specs.declared.tables.Tables.{Tables}
 use Rattle.request_dispatch.specs.declared.waiting.Waiting.{Waiting}
@@ -49,7 +50,7 @@ use Rattle.router_core.proofs.Knowing.{known_at}
 use Rattle.router_core.proofs.Noting.{fresh_alts}
 use Rattle.router_core.proofs.OpenAfter.{made_read, closed_read, open_same, frames_open}
 use Rattle.router_core.proofs.PartsDone.{Knows, part_done}
-use Rattle.router_core.proofs.ReadersAfter.{input_open, parts_are, readers_after}
+use Rattle.router_core.proofs.ReadersAfter.{parts_are, readers_after}
 use Rattle.router_core.proofs.Resolving.{addresses_are, purged_holds, purged_ended}
 use Rattle.router_core.proofs.Returning.{requests_rise}
 use Rattle.router_core.proofs.StepReadings.{read_settled}
