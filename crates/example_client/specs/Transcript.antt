@@ -19,6 +19,10 @@ abbrev pub actions_text : List Action → List ℕ
 actions_text [] = []
 actions_text (action ∷ actions) = action_line action ++ actions_text actions
 
+-- the line of what happened at a moment
+abbrev pub fact_line : ℕ → Fact → List ℕ
+fact_line now fact = event_text now (Client fact)
+
 -- the journal of some events with their moments, the newest first
 abbrev pub journal_of : List (ℕ × Fact) → Journal
 journal_of [] = []
@@ -27,7 +31,7 @@ journal_of (event ∷ earlier) = step (journal_of earlier) event.0 event.1
 abbrev pub transcript : List (ℕ × Fact) → List ℕ
 transcript [] = []
 transcript (event ∷ earlier) =
-    transcript earlier ++ ((event_text event.0 (Client event.1) ++ codes "\n") ++ actions_text (newest_actions (journal_of (event ∷ earlier))))
+    transcript earlier ++ ((fact_line event.0 event.1 ++ codes "\n") ++ actions_text (newest_actions (journal_of (event ∷ earlier))))
 
 -- the router stands for the events that were told it, and their transcript was printed, from the bytes of before on
 abbrev pub HasTold : Router → Option (List ℕ) → Option (List ℕ) → Type 0

@@ -1,5 +1,7 @@
 use alt_base::Bytes;
+use dns_names::Name;
 use origin_values::Origin;
+use route_events::AnswerBody;
 
 /// What comes to the client from outside. A real client hears of it from its callers, its sockets and its system.
 #[derive(Drop)]
@@ -8,6 +10,12 @@ pub(crate) enum Arrival {
     Asked {
         origin: Origin,
         again: bool,
+    },
+    /// The resolver answers what a name has, and for how many seconds that is in force.
+    Resolved {
+        name: Name,
+        ttl: u32,
+        body: AnswerBody,
     },
     /// An attempt reached the server of this place in the network.
     Reached {

@@ -2,10 +2,12 @@
 use crate::arrival::Arrival;
 use crate::client::Client;
 use crate::fault::Fault;
-use alt_base::Moment;
+use crate::texts::host_of;
+use alt_base::{Duplicate, Moment};
 use origin_values::{Host, Origin};
 use route_events::{Action, Route, protocols_of};
 use router_core::Router;
+use std::alloc::Global;
 
 impl Client {
     /// Does what an action asks for. The router stands as it is behind the step that the action is of.
@@ -39,7 +41,9 @@ impl Client {
             Action::Field { .. } => Ok(()),
             Action::Ignored { .. } => Ok(()),
             Action::Origins { .. } => Ok(()),
+            Action::Malformed { .. } => Ok(()),
             Action::Who { .. } => Ok(()),
+            Action::Stats { .. } => Ok(()),
         }
     }
 
@@ -51,9 +55,9 @@ impl Client {
         origin: &Origin,
         route: &Route,
     ) -> Result<(), Fault> {
-        let (host, port) = target_of(origin, route);
+        let (host, port) = target_of(self.alloc, origin, route)?;
         let protos = protocols_of(origin.scheme, route);
-        let arrival = match self.network.find(host, port, protos) {
+        let arrival = match self.network.find(&host, port, protos) {
             Some(server) => Arrival::Reached { attempt, server },
             None => Arrival::Missed { attempt },
         };
@@ -103,13 +107,14 @@ impl Client {
 }
 
 // The host and the port that a route to an origin leads to: an alternative without a host stands at the origin's (RFC 7838
-// 3).
-fn target_of<'a>(origin: &'a Origin, route: &'a Route) -> (&'a Host, u16) {
+// 3), an endpoint at the name that its record has as its target (RFC 9460 3).
+fn target_of(alloc: Global, origin: &Origin, route: &Route) -> Result<(Host, u16), Fault> {
     match route {
-        Route::Direct => (&origin.host, origin.port),
+        Route::Direct => Ok((origin.host.copy(alloc)?, origin.port)),
         Route::Alt(key) => match &key.host {
-            Some(host) => (host, key.port),
-            None => (&origin.host, key.port),
+            Some(host) => Ok((host.copy(alloc)?, key.port)),
+            None => Ok((origin.host.copy(alloc)?, key.port)),
         },
+        Route::Rec(endpoint) => Ok((host_of(alloc, &endpoint.target)?, endpoint.port)),
     }
 }

@@ -16,6 +16,7 @@ mod fault;
 mod greeting;
 mod network;
 mod queue;
+mod record;
 mod running;
 mod scene;
 mod server;

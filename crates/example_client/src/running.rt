@@ -1,11 +1,14 @@
 //! The loop of every client: something happens, the router is told, and what it answers is done.
 ghost use Rattle.std.specs.Prelude.{◌≡◌, [], ◌++◌, ℕ, List, Option, IfOk, OnOk, codes, false};
+ghost use Rattle.route_events.specs.Journal.{Journal};
+ghost use Rattle.router_core.specs.Fitting.{IsFit};
+ghost use Rattle.router_core.specs.StandsFor.{StandsFor, Takes};
 ghost use Rattle.example_client.specs.Telling.{CanBeTold};
-ghost use Rattle.example_client.specs.Transcript.{action_line, actions_text, HasTold, IsPrinted};
+ghost use Rattle.example_client.specs.Transcript.{action_line, actions_text, fact_line, HasTold, IsPrinted};
 
 use crate::client::Client;
 use crate::fault::Fault;
-use alt_base::{Moment, NoMemory, Sink, write_all};
+use alt_base::{Bytes, Duplicate, Moment, NoMemory, Sink, write_all};
 use event_lines::{Event, write_action, write_event};
 use route_events::{Action, Actions, Fact};
 use router_core::{Router, StepFault};
@@ -63,16 +66,21 @@ fn tell<K: Sink>(
     requires { CanBeTold fact }
     ensures { OnOk result ((first : Option (List ℕ)) → HasTold router.old first (K.written sink.old) → HasTold router.new first (K.written sink.new)) }
 {
-    let event = Event::Client(fact);
-    let line = write_event(alloc, now, &event)?;
-    let Event::Client(fact) = event else {
-        unreachable!();
-    };
+    let line = event_line(alloc, now, &fact)?;
+    let actions = hand_in(alloc, router, now, fact)?;
+    let text = lines(alloc, line.as_slice(), actions.as_slice())?;
+    write_all(sink, &text)?;
+    Ok(actions)
+}
+
+// Hands a fact in. A step takes the router and gives the next one, so a new one takes its place meanwhile.
+fn hand_in(alloc: Global, router: &mut Router, now: Moment, fact: Fact) -> Result<Actions, Fault>
+    requires { IsFit fact }
+    ensures { IfOk result (λ actions. (journal : Journal) → StandsFor router.old journal → Takes router.new actions journal now.0 fact) }
+{
     match mem::replace(router, Router::new(alloc)).step(now, fact) {
         Ok((next, actions)) => {
             *router = next;
-            let text = lines(alloc, line.as_slice(), actions.as_slice())?;
-            write_all(sink, &text)?;
             Ok(actions)
         }
         Err(
@@ -86,6 +94,14 @@ fn tell<K: Sink>(
         }
         Err(StepFault::NoMemory) => Err(Fault::NoMemory),
     }
+}
+
+// The line of a fact.
+fn event_line(alloc: Global, now: Moment, fact: &Fact) -> Result<Bytes, NoMemory>
+    requires { CanBeTold fact.now }
+    ensures { IfOk result (λ line. line ≡ fact_line now.0 fact.now) }
+{
+    write_event(alloc, now, &Event::Client(fact.copy(alloc)?))
 }
 
 // An event's line, and the lines of the actions.

@@ -3,9 +3,10 @@ use crate::arrival::Arrival;
 use crate::fault::Fault;
 use crate::network::Network;
 use crate::queue::Queue;
+use crate::record::Record;
 use crate::server::Server;
 use crate::site::Site;
-use crate::texts::origin;
+use crate::texts::{name, origin};
 use alt_base::Moment;
 use origin_values::Proto;
 use std::alloc::Global;
@@ -50,12 +51,16 @@ const SITES: [Site; 6] = [
         ends: true,
         ..PLAIN
     },
-    // The server of c.example by now, whose alternative over HTTP/3 nobody reaches.
+    // The server of c.example by now, and of two sites beside it. Its alternative over HTTP/3 nobody reaches.
     Site {
         host: b"c.example",
         addr: [192, 0, 2, 3],
-        names: b"c.example",
-        serves: &[b"https://c.example"],
+        names: b"c.example,h.example,i.example",
+        serves: &[
+            b"https://c.example",
+            b"https://h.example",
+            b"https://i.example",
+        ],
         altsvc: b"h3=\":443\"; ma=600",
         ..PLAIN
     },
@@ -92,8 +97,22 @@ const SITES: [Site; 6] = [
     },
 ];
 
+/// What the resolver answers for names, and when: h.example has the address of c.example, so that one connection may serve
+/// both, and the record of i.example leads to c.example, over HTTP/2.
+const ANSWERS: [(u32, &[u8], Record); 2] = [
+    (110, b"h.example", Record::Address([192, 0, 2, 3])),
+    (
+        120,
+        b"i.example",
+        Record::Https(b"\x00\x01\x01c\x07example\x00\x00\x01\x00\x03\x02h2"),
+    ),
+];
+
+/// For how many seconds an answer is in force.
+const TTL: u32 = 60;
+
 /// What is asked, and when.
-const WISHES: [(u32, &[u8]); 13] = [
+const WISHES: [(u32, &[u8]); 15] = [
     (0, b"https://a.example"),
     (10, b"https://b.example"),
     (10, b"https://c.example"),
@@ -106,6 +125,8 @@ const WISHES: [(u32, &[u8]); 13] = [
     (80, b"http://g.example"),
     (90, b"https://c.example"),
     (100, b"https://c.example"),
+    (110, b"https://h.example"),
+    (120, b"https://i.example"),
     (210, b"https://a.example"),
 ];
 
@@ -121,8 +142,16 @@ pub(crate) fn network(alloc: Global) -> Result<Network, Fault> {
     Ok(Network { servers })
 }
 
-/// Lets all come that is asked.
+/// Lets all come that is answered and asked. An answer comes before the request that it is for.
 pub(crate) fn fill(alloc: Global, queue: &mut Queue) -> Result<(), Fault> {
+    for (at, text, record) in ANSWERS {
+        let arrival = Arrival::Resolved {
+            name: name(alloc, text)?,
+            ttl: TTL,
+            body: record.body(alloc)?,
+        };
+        queue.add(Moment(at), 0, arrival)?;
+    }
     for (at, text) in WISHES {
         let origin = origin(alloc, text)?;
         let again = false;

@@ -21,6 +21,7 @@ impl Client {
     {
         match arrival {
             Arrival::Asked { origin, again } => self.ask(origin, again),
+            Arrival::Resolved { name, ttl, body } => Ok(Some(Fact::Answer { name, ttl, body })),
             Arrival::Reached { attempt, server } => self.connect(now, attempt, server),
             Arrival::Missed { attempt } => Ok(Some(Fact::Failed { attempt })),
             Arrival::Readable { conn } => self.read(now, conn),

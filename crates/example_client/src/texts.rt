@@ -5,7 +5,8 @@ ghost use Rattle.origin_values.specs.Valid.{IsOrigin};
 use crate::fault::Fault;
 use alt_base::{Bytes, ListOf};
 use coalescing::{CertNames, parse_names};
-use origin_values::Origin;
+use dns_names::Name;
+use origin_values::{Host, Origin};
 use std::alloc::Global;
 
 /// The origin of a text of at most 300 bytes.
@@ -18,6 +19,18 @@ pub(crate) fn origin(alloc: Global, text: &[u8]) -> Result<Origin, Fault>
 /// The names of a certificate, by their text of at most 300 bytes.
 pub(crate) fn names(alloc: Global, text: &[u8]) -> Result<CertNames, Fault> {
     Ok(parse_names(alloc, &text[..text.len().min(300)])?)
+}
+
+/// The name of DNS of a text of at most 300 bytes.
+pub(crate) fn name(alloc: Global, text: &[u8]) -> Result<Name, Fault> {
+    Ok(Name::from_text(alloc, &text[..text.len().min(300)])?)
+}
+
+/// The host that a name of DNS stands for: its text without the final dot.
+pub(crate) fn host_of(alloc: Global, name: &Name) -> Result<Host, Fault> {
+    let text = name.to_text(alloc)?;
+    let length = text.len().saturating_sub(1);
+    Ok(Host::parse(alloc, &text.as_slice()[..length])?)
 }
 
 /// The bytes of a text.
