@@ -10,7 +10,8 @@ use Rattle.event_lines.specs.Fields.{number_of, dns_name_of, answer_kind_of}
 use Rattle.event_lines.specs.Limits.{most_ttl}
 use Rattle.event_lines.specs.Parts.{Part, Reading, ◌>>=◌, field}
 use Rattle.event_lines.specs.LineReading.{answer_fields}
-use Rattle.event_lines.specs.LineGrammar.{SpellsNumber, SpellItems, NoSpace, AreApart, spaced, SpellsAnswer, SpellsKind}
+use Rattle.event_lines.specs.LineGrammar.{SpellItems, SpellsAnswer, SpellsKind}
+use Rattle.event_lines.specs.WordGrammar.{SpellsNumber, NoSpace, AreApart, spaced}
 use Rattle.event_lines.specs.LineRefusals.{EndsWord, IsNext}
 use Rattle.event_lines.specs.declared.answer_kind.AnswerKind.{AnswerKind}
 use Rattle.event_lines.specs.declared.answer_kind.AnswerKind.TheVariants.{Ipv4, Ipv6, Https}

@@ -8,7 +8,8 @@ use Rattle.origin_values.specs.declared.address.Addr.TheVariants as address
 use Rattle.origin_values.proofs.Addresses.{read_addr_complete, read_addr_sound}
 use Rattle.event_lines.specs.AnswerReading.{v4_among, v6_among, item_of, Items, items_from}
 use Rattle.event_lines.specs.Parts.{◌>>=◌, value_or, refused}
-use Rattle.event_lines.specs.LineGrammar.{SpellsItem, SpellItems, spaced}
+use Rattle.event_lines.specs.LineGrammar.{SpellsItem, SpellItems}
+use Rattle.event_lines.specs.WordGrammar.{spaced}
 use Rattle.event_lines.specs.declared.answer_kind.AnswerKind.{AnswerKind}
 use Rattle.event_lines.specs.declared.answer_kind.AnswerKind.TheVariants.{Ipv4, Ipv6, Https}
 use Rattle.event_lines.specs.declared.refusal.LineRefusal.{LineRefusal}

@@ -8,7 +8,7 @@ use Rattle.event_lines.specs.Fields.{number_of, answer_kind_of}
 use Rattle.event_lines.specs.Limits.{most_ttl}
 use Rattle.event_lines.specs.Parts.{Part, Reading, ◌>>=◌, value_or, field}
 use Rattle.event_lines.specs.LineReading.{end_reading}
-use Rattle.event_lines.specs.LineGrammar.{AreApart, spaced}
+use Rattle.event_lines.specs.WordGrammar.{AreApart, spaced}
 use Rattle.event_lines.specs.LineRefusals.{OfNumber, OfAnswerKind, EndsWord, IsNext, IsBadItem, TtlRefusedAt, KindRefusedAt}
 use Rattle.event_lines.specs.declared.answer_kind.AnswerKind.{AnswerKind}
 use Rattle.event_lines.specs.declared.refusal.LineRefusal.{LineRefusal}

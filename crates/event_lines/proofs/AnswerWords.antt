@@ -4,7 +4,7 @@ use Rattle.std.specs.List.{slice_split, onto_first}
 use Rattle.alt_base.proofs.Numbers.{false_eq, true_eq}
 use Rattle.event_lines.specs.AnswerReading.{words_behind}
 use Rattle.event_lines.specs.Parts.{is_space, before_space, from_space}
-use Rattle.event_lines.specs.LineGrammar.{NoSpace, AreApart, spaced}
+use Rattle.event_lines.specs.WordGrammar.{NoSpace, AreApart, spaced}
 use Rattle.event_lines.specs.LineRefusals.{EndsWord}
 use Rattle.event_lines.proofs.Spaces.{before_front, from_front}
 

@@ -1,10 +1,14 @@
 -- Reading the fields of a kind one by one.
-use Rattle.std.proofs.Common.{◌≡◌, ℕ, ◌+◌, List, [], ◌∷◌, ◌++◌, length, Option, Some, None, Ok, refl, ap, sym, ◌∙◌}
-use Rattle.event_lines.specs.Parts.{Part, Reading, ◌>>=◌, next_word, value_or, field, refused}
-use Rattle.event_lines.specs.LineGrammar.{NoSpace, spaced}
+use Rattle.std.proofs.Common.{◌≡◌, ℕ, ◌+◌, true, List, [], ◌∷◌, ◌++◌, length, Option, Some, None, Ok, refl, ap, sym, ◌∙◌, subst}
+use Rattle.std.specs.Cmp.Lexicographic.{same_text}
+use Rattle.event_lines.specs.Parts.{Part, Reading, ◌>>=◌, next_word, value_or, field, refused, is_kind}
+use Rattle.event_lines.specs.LineGrammar.{SpellsKind}
+use Rattle.event_lines.specs.WordGrammar.{NoSpace, spaced}
 use Rattle.event_lines.specs.LineRefusals.{EndsWord, IsNext}
+use Rattle.event_lines.specs.declared.event.Event.{Event}
 use Rattle.event_lines.specs.declared.refusal.LineRefusal.{LineRefusal}
 use Rattle.event_lines.specs.declared.refusal.LineRefusal.TheVariants.{BadField}
+use Rattle.event_lines.proofs.Refusals.{got_parts}
 use Rattle.event_lines.proofs.Spaces.{next_reads, next_spaced, Next, Nothing, More, next_of}
 
 abbrev pub part : List ℕ → ℕ → Part
@@ -63,3 +67,13 @@ text_of p = p.text
 -- and behind the name of a kind
 pub behind_kind : (kind text whole : List ℕ) (words : List (List ℕ)) → whole ≡ 32 ∷ (kind ++ text) → text ≡ spaced words → whole ≡ spaced (kind ∷ words)
 behind_kind kind text whole words is more = is ∙ ap (λ t. 32 ∷ (kind ++ t)) more
+
+pub kind_named : (name kind text whole : List ℕ) → whole ≡ 32 ∷ (name ++ text) → is_kind name kind ≡ true → whole ≡ 32 ∷ (kind ++ text)
+kind_named name kind text whole is t = is ∙ ap (λ n. 32 ∷ (n ++ text)) (same_text name kind (sym t))
+
+-- a kind without fields, and nothing behind it
+pub kind_alone : (kind text whole : List ℕ) (own event : Event) (place : ℕ) (left : Part) → (whole ≡ spaced (kind ∷ []) → SpellsKind whole own) → whole ≡ 32 ∷ (kind ++ text) → got own (part text place) ≡ got event left
+    → left.text ≡ [] → SpellsKind whole event
+kind_alone kind text whole own event place left spells is h none =
+    let last = got_parts own event (part text place) left h in
+    subst (SpellsKind whole) last.0 (spells (behind_kind kind text whole [] is (ap text_of last.1 ∙ none)))

@@ -1,6 +1,5 @@
 -- Each kind's fields against the grammar. A further kind is a case of `kind_complete` and one of `kind_sound`.
-use Rattle.std.proofs.Common.{◌≡◌, ℕ, ◌+◌, Bool, true, false, cond, nat_eq, List, [], ◌∷◌, ◌++◌, length, codes, Some, unwrap_or, ◌≤◌, append_assoc, append-nil, refl, ap, sym, ◌∙◌, subst}
-use Rattle.std.specs.Cmp.Lexicographic.{pointwise, same_text}
+use Rattle.std.proofs.Common.{◌≡◌, ℕ, ◌+◌, Bool, true, false, cond, List, [], ◌∷◌, ◌++◌, length, codes, Some, unwrap_or, ◌≤◌, append_assoc, append-nil, refl, ap, ◌∙◌, subst}
 use Rattle.origin_values.specs.HostReading.{read_addr}
 use Rattle.origin_values.specs.declared.address.Addr.{Addr}
 use Rattle.origin_values.specs.declared.origin.Origin.{Origin}
@@ -10,22 +9,24 @@ use Rattle.coalescing.specs.declared.cert_name.CertName.{CertName}
 use Rattle.route_events.specs.declared.fact.Fact.TheVariants.{Request, Opened, Failed, Closed, Response, Input, Network, Tick, Who, Stats}
 use Rattle.event_lines.specs.Fields.{number_of, port_of, proto_of, origin_of, names_of, octets_of}
 use Rattle.event_lines.specs.Limits.{most_short, most_long}
-use Rattle.event_lines.specs.Parts.{Part, Reading, ◌>>=◌, field, refused}
+use Rattle.event_lines.specs.Parts.{Part, Reading, ◌>>=◌, field, is_kind}
 use Rattle.event_lines.specs.LineReading.{request_fields, opened_fields, failed_fields, closed_fields, response_fields, input_fields, answer_fields, who_fields, kind_reading}
 use Rattle.event_lines.specs.ResponseGrammar.{Field, SpellFields, tabbed, most_fields, altsvc_of}
 use Rattle.event_lines.specs.ResponseReading.{status_reading, reply_reading, age_of}
+use Rattle.event_lines.specs.ServerReading.{server_reading}
 use Rattle.event_lines.specs.declared.response.Reply.{Reply}
-use Rattle.event_lines.specs.LineGrammar.{NoSpace, AreApart, spaced, SpellsStatus, SpellsRequest, SpellsOpened, SpellsNumbered, SpellsResponse, SpellsInput, SpellsWho, SpellsKind}
+use Rattle.event_lines.specs.LineGrammar.{SpellsStatus, SpellsRequest, SpellsOpened, SpellsNumbered, SpellsResponse, SpellsInput, SpellsWho, SpellsKind}
+use Rattle.event_lines.specs.WordGrammar.{NoSpace, AreApart, spaced}
 use Rattle.event_lines.specs.LineRefusals.{EndsWord, IsNext, IsStatusWord}
 use Rattle.event_lines.specs.declared.event.Event.{Event}
 use Rattle.event_lines.specs.declared.event.Event.TheVariants.{Client}
-use Rattle.event_lines.specs.declared.refusal.LineRefusal.TheVariants.{UnknownKind}
 use Rattle.event_lines.proofs.AgeTexts.{age_told}
 use Rattle.event_lines.proofs.AnswerFields.{answer_sound}
-use Rattle.event_lines.proofs.FieldReads.{part, got, text_of, field_next, field_reads, field_found, joined_last, joined, behind_kind}
+use Rattle.event_lines.proofs.FieldReads.{part, got, text_of, field_next, field_reads, field_found, joined_last, joined, behind_kind, kind_named, kind_alone}
 use Rattle.event_lines.proofs.NumberTexts.{number_sound, port_sound}
 use Rattle.event_lines.proofs.FieldTexts.{proto_sound, origin_field_sound, names_field_sound, octets_sound}
 use Rattle.event_lines.proofs.Refusals.{got_parts}
+use Rattle.event_lines.proofs.ServerFields.{server_sound}
 use Rattle.event_lines.proofs.ResponseTexts.{status_apart, tabbed_ends_word, reply_complete, status_reads, status_found, reply_found}
 
 abbrev opened_names : ℕ → Proto → Addr → ℕ → List CertName × Part → Reading Event
@@ -238,32 +239,24 @@ response_sound text whole place event left is ends h none =
     } in
     subst (SpellsKind whole) r.same spells
 
-abbrev is_name : List ℕ → List ℕ → Bool
-is_name name kind = pointwise nat_eq name kind
-
 -- what is read of a kind, up to the end of the line
 pub kind_sound : (name text whole : List ℕ) (p q : ℕ) (event : Event) (left : Part) → whole ≡ 32 ∷ (name ++ text) → EndsWord text → kind_reading (part name p) (part text q) ≡ got event left → left.text ≡ []
     → SpellsKind whole event
 kind_sound name text whole p q event left is ends h none =
-    go (is_name name (codes "request")) (is_name name (codes "opened")) (is_name name (codes "failed")) (is_name name (codes "closed")) (is_name name (codes "response")) (is_name name (codes "input"))
-    (is_name name (codes "answer")) (is_name name (codes "network")) (is_name name (codes "tick")) (is_name name (codes "who")) (is_name name (codes "stats")) refl refl refl refl refl refl refl refl refl refl refl h
+    go (is_kind name (codes "request")) (is_kind name (codes "opened")) (is_kind name (codes "failed")) (is_kind name (codes "closed")) (is_kind name (codes "response")) (is_kind name (codes "input"))
+    (is_kind name (codes "answer")) (is_kind name (codes "network")) (is_kind name (codes "tick")) (is_kind name (codes "who")) (is_kind name (codes "stats")) refl refl refl refl refl refl refl refl refl refl refl h
   where
-    named : (kind : List ℕ) → is_name name kind ≡ true → whole ≡ 32 ∷ (kind ++ text)
-    named kind t = is ∙ ap (λ n. 32 ∷ (n ++ text)) (same_text name kind (sym t))
-
-    clash : refused {A = Event × Part} p UnknownKind ≡ got event left → ⊥
-    clash e = cc
+    named : (kind : List ℕ) → is_kind name kind ≡ true → whole ≡ 32 ∷ (kind ++ text)
+    named kind t = kind_named name kind text whole is t
 
     alone : (kind : List ℕ) (own : Event) → (whole ≡ spaced (kind ∷ []) → SpellsKind whole own) → whole ≡ 32 ∷ (kind ++ text) → got own (part text q) ≡ got event left → SpellsKind whole event
-    alone kind own spells w e =
-        let last = got_parts own event (part text q) left e in
-        subst (SpellsKind whole) last.0 (spells (behind_kind kind text whole [] w (ap text_of last.1 ∙ none)))
+    alone kind own spells w e = kind_alone kind text whole own event q left spells w e none
 
-    go : (a b c d r i v n t w s : Bool) → is_name name (codes "request") ≡ a → is_name name (codes "opened") ≡ b → is_name name (codes "failed") ≡ c → is_name name (codes "closed") ≡ d → is_name name (codes "response") ≡ r
-        → is_name name (codes "input") ≡ i → is_name name (codes "answer") ≡ v → is_name name (codes "network") ≡ n → is_name name (codes "tick") ≡ t → is_name name (codes "who") ≡ w → is_name name (codes "stats") ≡ s
+    go : (a b c d r i v n t w s : Bool) → is_kind name (codes "request") ≡ a → is_kind name (codes "opened") ≡ b → is_kind name (codes "failed") ≡ c → is_kind name (codes "closed") ≡ d → is_kind name (codes "response") ≡ r
+        → is_kind name (codes "input") ≡ i → is_kind name (codes "answer") ≡ v → is_kind name (codes "network") ≡ n → is_kind name (codes "tick") ≡ t → is_kind name (codes "who") ≡ w → is_kind name (codes "stats") ≡ s
         → cond a (request_fields (part text q)) (cond b (opened_fields (part text q)) (cond c (failed_fields (part text q)) (cond d (closed_fields (part text q)) (cond r (response_fields (part text q))
         (cond i (input_fields (part text q)) (cond v (answer_fields (part text q)) (cond n (got (Client Network) (part text q)) (cond t (got (Client Tick) (part text q)) (cond w (who_fields (part text q))
-        (cond s (got (Client Stats) (part text q)) (refused p UnknownKind)))))))))))
+        (cond s (got (Client Stats) (part text q)) (server_reading (part name p) (part text q))))))))))))
         ≡ got event left → SpellsKind whole event
     go true b c d r i v n t w s is_a is_b is_c is_d is_r is_i is_v is_n is_t is_w is_s k = request_sound text whole q event left (named (codes "request") is_a) ends k none
     go false true c d r i v n t w s is_a is_b is_c is_d is_r is_i is_v is_n is_t is_w is_s k = opened_sound text whole q event left (named (codes "opened") is_b) ends k none
@@ -276,4 +269,4 @@ kind_sound name text whole p q event left is ends h none =
     go false false false false false false false false true w s is_a is_b is_c is_d is_r is_i is_v is_n is_t is_w is_s k = alone (codes "tick") (Client Tick) (λ s. s) (named (codes "tick") is_t) k
     go false false false false false false false false false true s is_a is_b is_c is_d is_r is_i is_v is_n is_t is_w is_s k = who_sound text whole q event left (named (codes "who") is_w) ends k none
     go false false false false false false false false false false true is_a is_b is_c is_d is_r is_i is_v is_n is_t is_w is_s k = alone (codes "stats") (Client Stats) (λ s. s) (named (codes "stats") is_s) k
-    go false false false false false false false false false false false is_a is_b is_c is_d is_r is_i is_v is_n is_t is_w is_s k = absurd (clash k)
+    go false false false false false false false false false false false is_a is_b is_c is_d is_r is_i is_v is_n is_t is_w is_s k = server_sound name text whole p q event left is ends k none

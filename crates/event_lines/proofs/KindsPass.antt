@@ -1,5 +1,6 @@
--- Each kind is refused where its fields' forms are. A further kind is one line of `kinds_pass`.
-use Rattle.std.proofs.Common.{◌≡◌, ℕ, Bool, true, false, cond, nat_eq, List, [], ◌∷◌, codes, Ok, Err, unwrap_or, refl}
+-- Each kind is refused where its fields' forms are. A further kind is one line of `kinds_pass`, or of
+-- `server_passes`.
+use Rattle.std.proofs.Common.{◌≡◌, ℕ, nat_eq, List, codes, Ok, Err, unwrap_or, refl}
 use Rattle.std.specs.Cmp.Lexicographic.{pointwise}
 use Rattle.origin_values.specs.HostReading.{read_addr}
 use Rattle.origin_values.specs.declared.address.Addr.{Addr}
@@ -11,22 +12,18 @@ use Rattle.route_events.specs.declared.fact.Fact.TheVariants.{Request, Opened, F
 use Rattle.event_lines.specs.Fields.{number_of, port_of, proto_of, origin_of, names_of, octets_of, dns_name_of, answer_kind_of}
 use Rattle.event_lines.specs.AnswerReading.{items_reading}
 use Rattle.event_lines.specs.Limits.{most_short, most_long, most_ttl}
-use Rattle.event_lines.specs.Parts.{Part, Reading, ◌>>=◌, field, refused}
+use Rattle.event_lines.specs.Parts.{Part, Reading, ◌>>=◌, field}
 use Rattle.event_lines.specs.LineReading.{request_fields, opened_fields, response_fields, input_fields, answer_fields, who_fields, kind_reading, end_reading}
 use Rattle.event_lines.specs.ResponseReading.{status_reading, reply_reading}
 use Rattle.event_lines.specs.declared.response.Reply.{Reply}
-use Rattle.event_lines.specs.LineRefusals.{OfNumber, OfPort, OfProto, OfAddr, OfOrigin, OfNames, OfOctets, OfName, NoMore, Then, StatusAndFields, KindAndItems, Kind, kinds}
+use Rattle.event_lines.specs.LineRefusals.{OfNumber, OfPort, OfProto, OfAddr, OfOrigin, OfNames, OfOctets, OfName, NoMore, Then, StatusAndFields, KindAndItems, kinds}
 use Rattle.event_lines.specs.declared.answer_kind.AnswerKind.{AnswerKind}
 use Rattle.event_lines.specs.declared.event.Event.{Event}
 use Rattle.event_lines.specs.declared.event.Event.TheVariants.{Client}
-use Rattle.event_lines.specs.declared.refusal.LineRefusal.TheVariants.{UnknownKind}
 use Rattle.event_lines.proofs.AnswerTexts.{pass_items, pass_ttl, pass_answer}
-use Rattle.event_lines.proofs.Refusals.{Passed}
 use Rattle.event_lines.proofs.ResponseTexts.{pass_status}
-use Rattle.event_lines.proofs.Skeleton.{pass_fields, ended, ended_field}
-
-abbrev says : Event → Part → Reading Event
-says event left = Ok (event, left)
+use Rattle.event_lines.proofs.ServerPass.{server_passes}
+use Rattle.event_lines.proofs.Skeleton.{pass_fields, ended, ended_field, says, choice, pass_kind}
 
 request_passes : (rest : Part) → ended (request_fields rest) ≡ pass_fields (Then (OfNumber most_short) (Then OfOrigin NoMore)) rest
 request_passes rest =
@@ -103,15 +100,6 @@ answer_passes rest =
     (λ (n : List (List ℕ) × Part). field answer_kind_of n.1 >>= λ (k : AnswerKind × Part). field (number_of most_ttl) k.1 >>= λ (t : ℕ × Part). items_reading k.0 t.1 >>= λ (b : AnswerBody × Part). says (Client (Answer n.0 t.0 b.0)) b.1)
     KindAndItems rest (λ word. refl) λ name left. kind_passes name left
 
-choice : (t : Bool) (a b : Reading Event) (c d : Passed) → ended a ≡ c → ended b ≡ d → ended (cond t a b) ≡ cond t c d
-choice true a b c d h k = h
-choice false a b c d h k = k
-
--- the fields of the first kind of this name
-abbrev pub pass_kind : List Kind → Part → Part → Passed
-pass_kind [] name rest = refused name.place UnknownKind
-pass_kind (kind ∷ more) name rest = cond (pointwise nat_eq name.text kind.name) (pass_fields kind.forms rest) (pass_kind more name rest)
-
 pub kinds_pass : (name rest : Part) → ended (kind_reading name rest) ≡ pass_kind kinds name rest
 kinds_pass name rest =
     choice (pointwise nat_eq name.text (codes "request")) _ _ _ _ (request_passes rest)
@@ -124,4 +112,4 @@ kinds_pass name rest =
     (choice (pointwise nat_eq name.text (codes "network")) (says (Client Network) rest) _ _ _ refl
     (choice (pointwise nat_eq name.text (codes "tick")) (says (Client Tick) rest) _ _ _ refl
     (choice (pointwise nat_eq name.text (codes "who")) _ _ _ _ (who_passes rest)
-    (choice (pointwise nat_eq name.text (codes "stats")) (says (Client Stats) rest) (refused name.place UnknownKind) _ _ refl refl))))))))))
+    (choice (pointwise nat_eq name.text (codes "stats")) (says (Client Stats) rest) _ _ _ refl (server_passes name rest)))))))))))

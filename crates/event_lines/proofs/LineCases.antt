@@ -8,14 +8,15 @@ use Rattle.event_lines.specs.Fields.{number_of}
 use Rattle.event_lines.specs.Limits.{most_short}
 use Rattle.event_lines.specs.Parts.{Part, Reading, ◌>>=◌, before_space, from_space, next_word, value_or, refused}
 use Rattle.event_lines.specs.LineReading.{kind_reading, end_reading, event_reading, line_reading, is_skipped}
-use Rattle.event_lines.specs.LineGrammar.{SpellsNumber, NoSpace, IsSkipped}
+use Rattle.event_lines.specs.LineGrammar.{IsSkipped}
+use Rattle.event_lines.specs.WordGrammar.{SpellsNumber, NoSpace, spaced}
 use Rattle.event_lines.specs.LineRefusals.{EndsWord, IsFront, IsNext}
 use Rattle.event_lines.specs.declared.event.Event.{Event}
 use Rattle.event_lines.specs.declared.event.Event.TheVariants.{Skip}
 use Rattle.event_lines.specs.declared.refusal.LineRefusal.{LineRefusal}
 use Rattle.event_lines.specs.declared.refusal.LineRefusal.TheVariants.{BadMoment, UnknownKind}
 use Rattle.event_lines.proofs.NumberTexts.{number_sound, number_complete}
-use Rattle.event_lines.proofs.Spaces.{before_front, from_front, word_ends, front_of, next_reads, Next, Nothing, More, next_of}
+use Rattle.event_lines.proofs.Spaces.{IsInner, no_space_from, before_front, from_front, word_ends, front_of, next_reads, next_spaced, Next, Nothing, More, next_of}
 use Rattle.event_lines.proofs.Steps.{not_skipped}
 
 abbrev pub Said : Type 0
@@ -26,6 +27,9 @@ part text place = record { text = text; place = place }
 
 abbrev pub bad_line : ℕ → LineRefusal → Said
 bad_line place reason = refused place reason
+
+abbrev pub said : ℕ → Event → Said
+said now event = Ok (now, event)
 
 -- a kind's event at its moment, where nothing is left
 abbrev pub whole : ℕ → Reading Event → Said
@@ -90,6 +94,16 @@ with_moment line moment text now is s end =
 pub with_kind : (now place : ℕ) (text name behind : List ℕ) → IsNext text name behind
     → behind_moment now (part text place) ≡ whole now (kind_reading (part name (place + 1)) (part behind (place + 1 + length name)))
 with_kind now place text name behind s = ap (λ (r : Reading Part). r >>= λ (kind : Part × Part). whole now (kind_reading kind.0 kind.1)) (next_reads UnknownKind text name behind place s)
+
+-- a kind before its fields
+pub named : (now place : ℕ) (text name : List ℕ) (words : List (List ℕ)) → text ≡ spaced (name ∷ words) → IsInner name
+    → behind_moment now (part text place) ≡ whole now (kind_reading (part name (place + 1)) (part (spaced words) (place + 1 + length name)))
+named now place text name words is plain =
+    ap (λ t. behind_moment now (part t place)) is
+    ∙ with_kind now place (spaced (name ∷ words)) name (spaced words) (next_spaced name words (no_space_from name plain))
+
+pub begins_spaced : (text rest : List ℕ) → text ≡ 32 ∷ rest → EndsWord text
+begins_spaced text rest is = subst EndsWord (sym is) refl
 
 pub no_kind : (now place : ℕ) (text : List ℕ) → text ≡ [] → behind_moment now (part text place) ≡ bad_line place UnknownKind
 no_kind now place text none = ap (λ t. behind_moment now (part t place)) none

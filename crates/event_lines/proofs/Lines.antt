@@ -9,30 +9,29 @@ use Rattle.event_lines.specs.EventTexts.{kind_of, items_of, answer_kind_text}
 use Rattle.event_lines.specs.Limits.{most_short, most_long, most_ttl}
 use Rattle.event_lines.specs.Parts.{Part, Reading, ◌>>=◌, refused}
 use Rattle.event_lines.specs.LineReading.{kind_reading, end_reading, line_reading}
-use Rattle.event_lines.specs.LineGrammar.{SpellsNumber, spaced, SpellsKind, SpellsLine}
+use Rattle.event_lines.specs.LineGrammar.{SpellsKind, SpellsLine}
+use Rattle.event_lines.specs.WordGrammar.{SpellsNumber}
 use Rattle.event_lines.specs.LineRefusals.{EndsWord}
 use Rattle.event_lines.specs.declared.event.Event.{Event}
-use Rattle.event_lines.specs.declared.event.Event.TheVariants.{Client, Skip}
+use Rattle.event_lines.specs.declared.event.Event.TheVariants.{Client, Server, Skip}
 use Rattle.event_lines.specs.declared.refusal.LineRefusal.{LineRefusal}
 use Rattle.event_lines.specs.declared.refusal.LineRefusal.TheVariants.{BadMoment, UnknownKind}
 use Rattle.event_lines.proofs.AgeTexts.{age_read}
 use Rattle.event_lines.proofs.NumberTexts.{number_complete, port_complete}
 use Rattle.event_lines.proofs.AnswerFields.{answer_complete}
 use Rattle.event_lines.proofs.FieldTexts.{proto_complete, origin_field_complete, names_field_complete, octets_complete, dns_name_complete}
-use Rattle.event_lines.proofs.Spaces.{IsInner, no_space_from, next_spaced}
+use Rattle.event_lines.proofs.ServerActs.{act_complete, act_ends}
+use Rattle.event_lines.proofs.Spaces.{no_space_from}
 use Rattle.event_lines.specs.ResponseGrammar.{altsvc_of}
 use Rattle.event_lines.specs.LineRefusals.{IsNext}
 use Rattle.event_lines.proofs.Refusals.{Passed, passed_err}
 use Rattle.event_lines.proofs.Skeleton.{ended}
 use Rattle.event_lines.proofs.KindTexts.{request_complete, opened_complete, numbered_complete, input_complete, who_complete, response_rest, response_joined, response_complete, kind_sound}
-use Rattle.event_lines.proofs.LineCases.{Said, part, bad_line, whole, behind_moment, skip_reads, no_moment, with_moment, with_kind, no_kind, Line, Skipped, Wordless, Alone, Full, line_of}
+use Rattle.event_lines.proofs.LineCases.{Said, part, bad_line, said, whole, behind_moment, named, begins_spaced, skip_reads, no_moment, with_moment, with_kind, no_kind, Line, Skipped, Wordless, Alone, Full, line_of}
 use Rattle.origin_values.proofs.Addresses.{read_addr_complete}
 
 abbrev got : Event → Part → Reading Event
 got event left = Ok (event, left)
-
-abbrev pub said : ℕ → Event → Said
-said now event = Ok (now, event)
 
 -- what is read of a whole is read of its kind
 record Ended (reading : Reading Event) (event : Event) : Type 0 where
@@ -108,18 +107,12 @@ line_sound line now event h = go (line_of line)
           of_kind = kind_sound s.name s.behind s.text (place + 1) (place + 1 + length s.name) event end.1.left s.next.spelled s.next.end end.1.is end.1.nothing;
         })
 
--- a kind that is spelled is read
-named : (now place : ℕ) (text name : List ℕ) (words : List (List ℕ)) → text ≡ spaced (name ∷ words) → IsInner name
-    → behind_moment now (part text place) ≡ whole now (kind_reading (part name (place + 1)) (part (spaced words) (place + 1 + length name)))
-named now place text name words is plain =
-    ap (λ t. behind_moment now (part t place)) is
-    ∙ with_kind now place (spaced (name ∷ words)) name (spaced words) (next_spaced name words (no_space_from name plain))
-
 body_itself : (body : AnswerBody) → body_of (kind_of body) (items_of body) ≡ body
 body_itself (answer.V4 addresses) = refl
 body_itself (answer.V6 addresses) = refl
 body_itself (answer.Https rdatas) = refl
 
+-- a kind that is spelled is read
 kind_complete : (now place : ℕ) (text : List ℕ) (event : Event) → SpellsKind text event → behind_moment now (part text place) ≡ said now event
 kind_complete now place text (Client (Request number origin)) s =
     named now place text (codes "request") (s.number_text ∷ s.origin_text ∷ []) s.spelled refl
@@ -157,10 +150,8 @@ kind_complete now place text (Client (Who origin)) s =
     named now place text (codes "who") (s.origin_text ∷ []) s.spelled refl
     ∙ ap (whole now) (who_complete s.origin_text origin (place + 1 + 3) s.apart (origin_field_complete s.origin_text origin s.of_origin))
 kind_complete now place text (Client Stats) s = named now place text (codes "stats") [] s refl
+kind_complete now place text (Server act) s = act_complete now place text act s
 kind_complete now place text Skip s = absurd s
-
-begins_spaced : (text rest : List ℕ) → text ≡ 32 ∷ rest → EndsWord text
-begins_spaced text rest is = subst EndsWord (sym is) refl
 
 kind_ends : (text : List ℕ) (event : Event) → SpellsKind text event → EndsWord text
 kind_ends text (Client (Request number origin)) s = begins_spaced text _ s.spelled
@@ -175,6 +166,7 @@ kind_ends text (Client Network) s = begins_spaced text _ s
 kind_ends text (Client Tick) s = begins_spaced text _ s
 kind_ends text (Client (Who origin)) s = begins_spaced text _ s.spelled
 kind_ends text (Client Stats) s = begins_spaced text _ s
+kind_ends text (Server act) s = act_ends text act s
 kind_ends text Skip s = absurd s
 
 -- what is spelled is read

@@ -9,7 +9,8 @@ use Rattle.alt_base.proofs.Numbers.{eq_false, eq_true, false_eq, le_true, lt_tru
 use Rattle.alt_base.proofs.Digits.{digits_all}
 use Rattle.event_lines.specs.Fields.{is_number, number_within, number_of, unless_zero, port_of, final_status, status_of}
 use Rattle.event_lines.specs.Limits.{most_port, most_status}
-use Rattle.event_lines.specs.LineGrammar.{NoLeadingZero, SpellsNumber, SpellsPort, SpellsStatus}
+use Rattle.event_lines.specs.LineGrammar.{SpellsPort, SpellsStatus}
+use Rattle.event_lines.specs.WordGrammar.{NoLeadingZero, SpellsNumber}
 use Rattle.alt_base.proofs.Conjunctions.{both}
 use Rattle.alt_base.proofs.Digits.{all_digits, digit_code, value_of_digit}
 

@@ -7,8 +7,9 @@ use Rattle.event_lines.specs.Fields.{number_of}
 use Rattle.event_lines.specs.Limits.{most_short}
 use Rattle.event_lines.specs.Parts.{Part}
 use Rattle.event_lines.specs.LineReading.{kind_reading, line_reading}
-use Rattle.event_lines.specs.LineGrammar.{SpellsNumber, SpellsLine}
-use Rattle.event_lines.specs.LineRefusals.{EndsWord, IsNext, Forms, NoMore, Then, StatusAndFields, KindAndItems, Kind, kinds, IsAmong, IsNone, TtlRefusedAt, FieldsRefusedAt, IsOtherKind, IsWrongField, LineRefusedAt, OneLine}
+use Rattle.event_lines.specs.LineGrammar.{SpellsLine}
+use Rattle.event_lines.specs.WordGrammar.{SpellsNumber}
+use Rattle.event_lines.specs.LineRefusals.{EndsWord, IsNext, Forms, NoMore, Then, StatusAndFields, KindAndItems, ValueToEnd, Kind, kinds, IsAmong, IsNone, TtlRefusedAt, FieldsRefusedAt, IsOtherKind, IsWrongField, LineRefusedAt, OneLine}
 use Rattle.event_lines.specs.declared.answer_kind.AnswerKind.{AnswerKind}
 use Rattle.event_lines.specs.declared.event.Event.{Event}
 use Rattle.event_lines.specs.declared.event.Event.TheVariants.{Skip}
@@ -16,10 +17,10 @@ use Rattle.event_lines.specs.declared.refusal.LineRefusal.{LineRefusal}
 use Rattle.event_lines.specs.declared.refusal.LineRefusal.TheVariants.{BadMoment, UnknownKind, BadField, ExtraField}
 use Rattle.event_lines.proofs.NumberTexts.{number_sound, number_complete}
 use Rattle.event_lines.proofs.Refusals.{bad, refusal_parts}
-use Rattle.event_lines.proofs.Skeleton.{pass_fields, fields_refused, fields_say}
-use Rattle.event_lines.proofs.KindsPass.{pass_kind, kinds_pass}
-use Rattle.event_lines.proofs.LineCases.{Said, part, bad_line, whole, skip_reads, no_moment, with_moment, with_kind, no_kind, Kinded, Line, Skipped, Wordless, Alone, Full, line_of}
-use Rattle.event_lines.proofs.Lines.{said, said_parts, said_err, at_place, whole_refused, whole_says, line_sound, line_complete}
+use Rattle.event_lines.proofs.Skeleton.{pass_fields, fields_refused, fields_say, pass_kind}
+use Rattle.event_lines.proofs.KindsPass.{kinds_pass}
+use Rattle.event_lines.proofs.LineCases.{Said, part, bad_line, said, whole, skip_reads, no_moment, with_moment, with_kind, no_kind, Kinded, Line, Skipped, Wordless, Alone, Full, line_of}
+use Rattle.event_lines.proofs.Lines.{said_parts, said_err, at_place, whole_refused, whole_says, line_sound, line_complete}
 use Rattle.alt_base.proofs.Lists.{text_true}
 
 refused_parts : (p q : ℕ) (r s : LineRefusal) → bad_line p r ≡ bad_line q s → (p ≡ q) × (r ≡ s)
@@ -118,6 +119,8 @@ field_reason StatusAndFields begin text place reason (inr (inr (inr s))) = inl s
 field_reason KindAndItems begin text place reason (inl s) = inl s.why
 field_reason KindAndItems begin text place reason (inr (inl s)) = inl s.why
 field_reason KindAndItems begin text place reason (inr (inr s)) = inl (ttl_reason s.kind (begin + 1 + length (answer_kind_text s.kind)) s.behind place reason s.later)
+field_reason ValueToEnd begin text place reason (inl s) = inl s.why
+field_reason ValueToEnd begin text place reason (inr s) = inl s.why
 field_reason (Then form forms) begin text place reason (inl s) = inl s.why
 field_reason (Then form forms) begin text place reason (inr (inl s)) = inl s.why
 field_reason (Then form forms) begin text place reason (inr (inr s)) = field_reason forms (begin + 1 + length s.word) s.behind place reason s.later

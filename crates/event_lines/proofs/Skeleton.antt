@@ -1,21 +1,25 @@
 -- Where a line is refused, without the values of its fields: the forms of the fields alone decide.
-use Rattle.std.proofs.Common.{◌≡◌, ℕ, ◌+◌, Bool, true, false, cond, List, [], ◌∷◌, length, Option, None, Some, Ok, Err, refl, ap, sym, ◌∙◌, inl, inr}
+use Rattle.std.proofs.Common.{◌≡◌, ℕ, ◌+◌, Bool, true, false, cond, nat_eq, List, [], ◌∷◌, length, Option, None, Some, Ok, Err, refl, ap, sym, ◌∙◌, inl, inr}
+use Rattle.std.specs.Cmp.Lexicographic.{pointwise}
 use Rattle.event_lines.specs.Parts.{Part, Reading, ◌>>=◌, next_word, value_or, field, refused}
 use Rattle.event_lines.specs.LineReading.{end_reading}
-use Rattle.event_lines.specs.LineRefusals.{Form, Forms, NoMore, Then, StatusAndFields, KindAndItems, EndsWord, IsNext, FieldsRefusedAt}
+use Rattle.event_lines.specs.LineRefusals.{Form, Forms, NoMore, Then, StatusAndFields, KindAndItems, ValueToEnd, Kind, EndsWord, IsNext, FieldsRefusedAt}
+use Rattle.event_lines.specs.declared.event.Event.{Event}
 use Rattle.event_lines.specs.declared.refusal.LineRefusal.{LineRefusal}
-use Rattle.event_lines.specs.declared.refusal.LineRefusal.TheVariants.{BadField, ExtraField}
+use Rattle.event_lines.specs.declared.refusal.LineRefusal.TheVariants.{UnknownKind, BadField, ExtraField}
 use Rattle.event_lines.proofs.AnswerTexts.{pass_answer, kind_refused, kind_says}
 use Rattle.event_lines.proofs.FieldTexts.{is_some, has_form, form_sound, form_complete, form_missed, form_none}
 use Rattle.event_lines.proofs.Spaces.{next_reads, Next, Nothing, More, next_of}
 use Rattle.event_lines.proofs.Refusals.{Passed, bad, same_refusal, refusal_parts}
 use Rattle.event_lines.proofs.ResponseTexts.{pass_status, status_refused, status_says}
+use Rattle.event_lines.proofs.ServerValues.{pass_value, value_refused, value_says}
 
 -- fields of these forms, and nothing behind them
 abbrev pub pass_fields : Forms → Part → Passed
 pass_fields NoMore rest = end_reading rest
 pass_fields StatusAndFields rest = pass_status rest
 pass_fields KindAndItems rest = pass_answer rest
+pass_fields ValueToEnd rest = pass_value rest
 pass_fields (Then form forms) rest = next_word BadField rest >>= λ (word : Part × Part). cond (has_form form word.0.text) (pass_fields forms word.1) (refused word.0.place BadField)
 
 -- a reading, and nothing behind it
@@ -50,6 +54,7 @@ pub fields_refused : (forms : Forms) (begin : ℕ) (text : List ℕ) (place : �
 fields_refused NoMore begin [] place reason s = absurd (s.more refl)
 fields_refused StatusAndFields begin text place reason s = status_refused begin text place reason s
 fields_refused KindAndItems begin text place reason s = kind_refused begin text place reason s
+fields_refused ValueToEnd begin text place reason s = value_refused begin text place reason s
 fields_refused NoMore begin (b ∷ bs) place reason s = same_refusal (begin + 1) place ExtraField reason (sym s.at) (sym s.why)
 fields_refused (Then form forms) begin text place reason (inl s) =
     ap (λ t. pass_fields (Then form forms) (part t begin)) s.nothing ∙ same_refusal begin place BadField reason (sym s.at) (sym s.why)
@@ -66,6 +71,7 @@ fields_refused (Then form forms) begin text place reason (inr (inr s)) =
 pub fields_say : (forms : Forms) (begin : ℕ) (text : List ℕ) (place : ℕ) (reason : LineRefusal) → EndsWord text → pass_fields forms (part text begin) ≡ bad place reason → FieldsRefusedAt forms begin text place reason
 fields_say StatusAndFields begin text place reason end h = status_says begin text place reason end h
 fields_say KindAndItems begin text place reason end h = kind_says begin text place reason end h
+fields_say ValueToEnd begin text place reason end h = value_says begin text place reason end h
 fields_say NoMore begin [] place reason end h = cc
 fields_say NoMore begin (b ∷ bs) place reason end h =
     let same = refusal_parts (begin + 1) place ExtraField reason h in
@@ -84,3 +90,15 @@ fields_say (Then form forms) begin text place reason end h = go (λ n t e k. fie
         at false is e =
             let same = refusal_parts (begin + 1) place BadField reason e in
             inr (inl (record { word = word; behind = behind; next = s; bad = form_missed form word is; at = sym same.0; why = sym same.1 }))
+
+abbrev pub says : Event → Part → Reading Event
+says event left = Ok (event, left)
+
+pub choice : (t : Bool) (a b : Reading Event) (c d : Passed) → ended a ≡ c → ended b ≡ d → ended (cond t a b) ≡ cond t c d
+choice true a b c d h k = h
+choice false a b c d h k = k
+
+-- the fields of the first kind of this name
+abbrev pub pass_kind : List Kind → Part → Part → Passed
+pass_kind [] name rest = refused name.place UnknownKind
+pass_kind (kind ∷ more) name rest = cond (pointwise nat_eq name.text kind.name) (pass_fields kind.forms rest) (pass_kind more name rest)

@@ -3,7 +3,7 @@ use Rattle.std.proofs.Common.{◌≡◌, ◌≢◌, ℕ, ◌+◌, Bool, true, fa
 use Rattle.std.specs.List.{list_all}
 use Rattle.alt_base.proofs.Numbers.{eq_false, eq_true, false_eq, true_eq}
 use Rattle.event_lines.specs.Parts.{Part, is_space, before_space, from_space, Reading, word_behind, next_word}
-use Rattle.event_lines.specs.LineGrammar.{NoSpace, spaced}
+use Rattle.event_lines.specs.WordGrammar.{NoSpace, spaced}
 use Rattle.event_lines.specs.LineRefusals.{EndsWord, IsFront, IsNext}
 use Rattle.event_lines.specs.declared.refusal.LineRefusal.{LineRefusal}
 use Rattle.alt_base.proofs.Conjunctions.{both}

@@ -20,7 +20,8 @@ use Rattle.route_events.specs.declared.fact.Fact.{Fact}
 use Rattle.route_events.specs.declared.fact.Fact.TheVariants.{Request, Opened, Failed, Closed, Response, Input, Delivered, Answer, Network, Tick, Who, Stats}
 use Rattle.std.specs.Prelude.{All, IfOk}
 use Rattle.event_lines.specs.EventTexts.{kind_of, items_of, answer_kind_text}
-use Rattle.event_lines.specs.LineGrammar.{SpellsOctets, SpellsItem, SpellItems, spaced, SpellsResponse, SpellsInput, SpellsAnswer, SpellsKind, SpellsEvent, SpellsLine}
+use Rattle.event_lines.specs.LineGrammar.{SpellsOctets, SpellsItem, SpellItems, SpellsResponse, SpellsInput, SpellsAnswer, SpellsKind, SpellsEvent, SpellsLine}
+use Rattle.event_lines.specs.WordGrammar.{spaced}
 use Rattle.event_lines.specs.HaveLines.{HasText}
 use Rattle.event_lines.specs.Limits.{most_octets}
 use Rattle.event_lines.specs.LineReading.{line_reading}
@@ -31,10 +32,11 @@ use Rattle.event_lines.specs.Valid.{IsOptional, IsResponse, AreOctets, IsInput, 
 use Rattle.event_lines.specs.declared.answer_kind.AnswerKind.{AnswerKind}
 use Rattle.event_lines.specs.declared.answer_kind.AnswerKind.TheVariants.{Ipv4, Ipv6, Https}
 use Rattle.event_lines.specs.declared.event.Event.{Event}
-use Rattle.event_lines.specs.declared.event.Event.TheVariants.{Client, Skip}
+use Rattle.event_lines.specs.declared.event.Event.TheVariants.{Client, Server, Skip}
 use Rattle.event_lines.specs.declared.refusal.LineRefusal.{LineRefusal}
 use Rattle.event_lines.proofs.AgeTexts.{age_within}
 use Rattle.event_lines.proofs.Lines.{line_sound}
+use Rattle.event_lines.proofs.ServerActs.{act_valid}
 use Rattle.field_text.proofs.RunLemmas.{AllIn-append}
 
 abbrev AreValues : List (List ℕ) → Type 0
@@ -119,6 +121,7 @@ fact_valid text Stats s = tt
 
 event_valid : (line : List ℕ) (now : ℕ) (event : Event) → SpellsEvent line now event → IsEvent now event
 event_valid line now (Client fact) s = (s.of_moment.within, fact_valid s.text fact s.of_kind)
+event_valid line now (Server act) s = (s.of_moment.within, act_valid s.text act s.of_kind)
 event_valid line now Skip s = absurd s.of_kind
 
 pub line_valid : (line : List ℕ) (now : ℕ) (event : Event) → SpellsLine line now event → IsEvent now event
@@ -192,6 +195,7 @@ event_short line now (Client Network) s small = tt
 event_short line now (Client Tick) s small = tt
 event_short line now (Client (Who origin)) s small = tt
 event_short line now (Client Stats) s small = tt
+event_short line now (Server act) s small = tt
 event_short line now Skip s small = tt
 
 pub line_short : (line : List ℕ) (now : ℕ) (event : Event) → SpellsLine line now event → length line ≤ most_octets → IsShort event
@@ -217,6 +221,7 @@ texted now (Client Network) is = tt
 texted now (Client Tick) is = tt
 texted now (Client (Who origin)) is = tt
 texted now (Client Stats) is = tt
+texted now (Server act) is = tt
 texted now Skip is = tt
 
 pub read_texted : (result : Result (Moment × Event) (Refused LineRefusal)) → IfOk result (λ read. IsEvent read.0.0 read.1) → IfOk result (λ read. HasText read.1)

@@ -1,8 +1,7 @@
 -- The line of an event says it.
-use Rattle.std.proofs.Common.{◌≡◌, ℕ, zero, suc, ◌+◌, ◌*◌, true, ◌<◌, ◌≤◌, ◌^◌, List, [], ◌∷◌, ◌++◌, length, Option, Some, None, ◌≢◌, get_or, decimal, codes, append_assoc, append-nil, refl, ap, sym, ◌∙◌, subst, arith, inl, inr}
+use Rattle.std.proofs.Common.{◌≡◌, ℕ, ◌+◌, ◌*◌, true, ◌<◌, ◌≤◌, List, [], ◌∷◌, ◌++◌, length, Option, Some, None, ◌≢◌, decimal, codes, append_assoc, append-nil, refl, ap, ◌∙◌, arith, inl, inr}
 use Rattle.std.specs.Prelude.{All, map}
 use Rattle.std.proofs.lemmas.List.Elements.{All-head, All-tail}
-use Rattle.std.proofs.lemmas.Fmt.{decimal_is_IsNumeral, decimal_digit, first_decimal}
 use Rattle.std.proofs.lemmas.Str.Parse.{digit_from_value}
 use Rattle.std.specs.Char.{is_ascii_digit, digit_value}
 use Rattle.alt_base.proofs.Numbers.{le_true}
@@ -30,34 +29,22 @@ use Rattle.event_lines.specs.EventTexts.{proto_text, opened_text, input_text, ki
 use Rattle.event_lines.specs.Limits.{most_short, most_long, most_port, most_status, most_ttl}
 use Rattle.event_lines.specs.HaveLines.{HasNoLastSpace, HasLine}
 use Rattle.event_lines.specs.Valid.{IsOpened, IsOptional, AreOctets, IsInput, IsBody, IsAnswer, IsFact}
-use Rattle.event_lines.specs.LineGrammar.{NoLeadingZero, SpellsNumber, SpellsStatus, SpellsOctets, SpellsItem, SpellItems, NoSpace, AreApart, spaced, SpellsOpened, SpellsInput, SpellsAnswer, SpellsKind, SpellsLine}
+use Rattle.event_lines.specs.LineGrammar.{SpellsStatus, SpellsOctets, SpellsItem, SpellItems, SpellsOpened, SpellsInput, SpellsAnswer, SpellsKind, SpellsLine}
+use Rattle.event_lines.specs.WordGrammar.{SpellsNumber, AreApart, spaced}
 use Rattle.event_lines.specs.declared.answer_kind.AnswerKind.{AnswerKind}
 use Rattle.event_lines.specs.declared.answer_kind.AnswerKind.TheVariants.{Ipv4, Ipv6, Https}
 use Rattle.event_lines.specs.LineReading.{line_reading}
 use Rattle.event_lines.specs.declared.event.Event.{Event}
-use Rattle.event_lines.specs.declared.event.Event.TheVariants.{Client, Skip}
+use Rattle.event_lines.specs.declared.event.Event.TheVariants.{Client, Server, Skip}
+use Rattle.event_lines.specs.ServerTexts.{act_text}
+use Rattle.event_lines.proofs.WrittenActs.{act_written}
+use Rattle.event_lines.proofs.WrittenNumbers.{number_written, number_apart}
 use Rattle.event_lines.proofs.WrittenResponses.{HasField, number_value, response_written}
 use Rattle.event_lines.proofs.InnerBytes.{number_inner, addr_inner, origin_inner, names_inner, octets_inner, dns_name_inner}
 use Rattle.event_lines.proofs.Spaces.{IsInner, no_space_from}
-use Rattle.event_lines.proofs.Lines.{said, line_complete}
+use Rattle.event_lines.proofs.LineCases.{said}
+use Rattle.event_lines.proofs.Lines.{line_complete}
 use Rattle.alt_base.proofs.Digits.{value_of_digit, value_grows}
-
-leads : (text : List ℕ) → 48 < get_or text 0 0 → NoLeadingZero text
-leads [] h = tt
-leads (b ∷ []) h = tt
-leads (b ∷ c ∷ bs) h = λ e. omega arith
-
-decimal_leads : (n : ℕ) → n < 2 ^ 64 → NoLeadingZero (decimal n)
-decimal_leads zero small = subst NoLeadingZero (sym (decimal_digit 0 (omega arith))) tt
-decimal_leads (suc n) small = leads (decimal (suc n)) (first_decimal (suc n) (omega arith) small)
-
-number_written : (most n : ℕ) → most < 2 ^ 64 → n ≤ most → SpellsNumber most (decimal n) n
-number_written most n small within =
-    let digits = decimal_is_IsNumeral n (omega arith) in
-    record { numeral = digits.0; no_zero = decimal_leads n (omega arith); value = sym digits.1; within = within }
-
-number_apart : (most n : ℕ) → most < 2 ^ 64 → n ≤ most → NoSpace (decimal n)
-number_apart most n small within = no_space_from (decimal n) (number_inner n (omega arith))
 
 proto_inner : (proto : Proto) → IsInner (proto_text proto)
 proto_inner H2 = refl
@@ -233,6 +220,13 @@ line_written now (Client fact) h = inr (record {
   spelled = append_assoc (decimal now) (32 ∷ []) (fact_text fact);
   of_moment = number_written most_short now (omega arith) h.valid.0;
   of_kind = fact_written fact h.valid.1 h.end;
+})
+line_written now (Server act) h = inr (record {
+  moment = decimal now;
+  text = 32 ∷ act_text act;
+  spelled = append_assoc (decimal now) (32 ∷ []) (act_text act);
+  of_moment = number_written most_short now (omega arith) h.valid.0;
+  of_kind = act_written act h.valid.1 h.fits;
 })
 line_written now Skip h = inl (record { skipped = tt; at = h.valid; nothing = refl })
 

@@ -13,7 +13,8 @@ use Rattle.http_header.proofs.TokenLemmas.{IsFieldName-from_test}
 use Rattle.event_lines.specs.EventTexts.{age_text, altsvc_text, response_text}
 use Rattle.event_lines.specs.Limits.{most_short}
 use Rattle.event_lines.specs.Parts.{is_space}
-use Rattle.event_lines.specs.LineGrammar.{NoSpace, spaced, SpellsNumber, SpellsStatus, SpellsResponse}
+use Rattle.event_lines.specs.LineGrammar.{SpellsStatus, SpellsResponse}
+use Rattle.event_lines.specs.WordGrammar.{NoSpace, spaced, SpellsNumber}
 use Rattle.event_lines.specs.ResponseGrammar.{Field, is_value_byte, EndsInSpace, IsValue, SpellsField, SpellFields, tabbed, most_fields, HaveAge, altsvc_of}
 
 -- the value, if there is one, is that of one field

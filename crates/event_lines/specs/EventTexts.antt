@@ -1,4 +1,4 @@
--- The lines of events, each without a newline. A further kind is one case of `fact_text`, or of `event_text`.
+-- The lines of events, each without a newline. A further kind is one case of `fact_text`, or of `act_text`.
 use Rattle.std.specs.Prelude.{ℕ, ◌==◌, List, [], ◌∷◌, ◌++◌, codes, decimal, Option, Some, None, if◌then◌else◌}
 use Rattle.std.specs.Net.Text.{ipv4_text}
 use Rattle.dns_names.specs.TextParts.{text_form}
@@ -13,10 +13,11 @@ use Rattle.route_events.specs.declared.answer.AnswerBody.{AnswerBody}
 use Rattle.route_events.specs.declared.answer.AnswerBody.TheVariants as answer
 use Rattle.route_events.specs.declared.fact.Fact.{Fact}
 use Rattle.route_events.specs.declared.fact.Fact.TheVariants.{Request, Opened, Failed, Closed, Response, Input, Delivered, Answer, Network, Tick, Who, Stats}
+use Rattle.event_lines.specs.ServerTexts.{act_text}
 use Rattle.event_lines.specs.declared.answer_kind.AnswerKind.{AnswerKind}
 use Rattle.event_lines.specs.declared.answer_kind.AnswerKind.TheVariants.{Ipv4, Ipv6, Https}
 use Rattle.event_lines.specs.declared.event.Event.{Event}
-use Rattle.event_lines.specs.declared.event.Event.TheVariants.{Client, Skip}
+use Rattle.event_lines.specs.declared.event.Event.TheVariants.{Client, Server, Skip}
 
 -- the name of a protocol by ALPN (RFC 7301 6), or `other`
 abbrev pub proto_text : Proto → List ℕ
@@ -98,4 +99,5 @@ fact_text Stats = codes "stats"
 -- the moment and what happened; a skipped line is empty
 abbrev pub event_text : ℕ → Event → List ℕ
 event_text now (Client fact) = decimal now ++ codes " " ++ fact_text fact
+event_text now (Server act) = decimal now ++ codes " " ++ act_text act
 event_text now Skip = []

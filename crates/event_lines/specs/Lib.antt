@@ -3,9 +3,13 @@ pub mod EventTexts
 pub mod Parts
 pub mod Limits
 pub mod Fields
+pub mod WordGrammar
 pub mod ResponseGrammar
 pub mod ResponseReading
 pub mod AnswerReading
+pub mod ServerTexts
+pub mod ServerLines
+pub mod ServerReading
 pub mod LineReading
 pub mod Reads
 pub mod LineGrammar

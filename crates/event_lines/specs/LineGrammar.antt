@@ -1,7 +1,6 @@
 -- The lines, each beside the moment and the event that it says, by how the line splits. A further kind is one case of
--- `SpellsKind`.
-use Rattle.std.specs.Prelude.{◌≡◌, ◌≢◌, ◌⊎◌, ℕ, ◌≤◌, List, [], ◌∷◌, ◌++◌, length, codes, Option}
-use Rattle.std.specs.Str.Parse.{IsNumeral, digits_value}
+-- `SpellsKind`, or of `SpellsAct`.
+use Rattle.std.specs.Prelude.{◌≡◌, ◌⊎◌, ℕ, ◌≤◌, List, [], ◌∷◌, ◌++◌, length, codes, Option}
 use Rattle.dns_names.specs.TextGrammar.{SpellsText}
 use Rattle.origin_values.specs.HostGrammar.{SpellsV4, SpellsV6, SpellsAddr}
 use Rattle.origin_values.specs.OriginGrammar.{SpellsOrigin}
@@ -16,23 +15,12 @@ use Rattle.route_events.specs.declared.answer.AnswerBody.{AnswerBody}
 use Rattle.event_lines.specs.EventTexts.{proto_text, kind_of, items_of, answer_kind_text}
 use Rattle.event_lines.specs.Limits.{most_short, most_long, most_port, most_status, most_ttl}
 use Rattle.event_lines.specs.ResponseGrammar.{Field, SpellFields, tabbed, most_fields, HaveAge, altsvc_of}
+use Rattle.event_lines.specs.ServerLines.{SpellsAct}
+use Rattle.event_lines.specs.WordGrammar.{SpellsNumber, NoSpace, AreApart, spaced}
 use Rattle.event_lines.specs.declared.answer_kind.AnswerKind.{AnswerKind}
 use Rattle.event_lines.specs.declared.answer_kind.AnswerKind.TheVariants.{Ipv4, Ipv6, Https}
 use Rattle.event_lines.specs.declared.event.Event.{Event}
-use Rattle.event_lines.specs.declared.event.Event.TheVariants.{Client, Skip}
-
--- no zero stands before further digits
-abbrev pub NoLeadingZero : List ℕ → Type 0
-NoLeadingZero [] = Unit {0}
-NoLeadingZero (b ∷ []) = Unit {0}
-NoLeadingZero (b ∷ c ∷ bs) = b ≢ 48
-
--- decimal digits without a leading zero, of a value that is at most so great
-pub record SpellsNumber (most : ℕ) (text : List ℕ) (n : ℕ) : Type 0 where
-  pub numeral : IsNumeral 10 text
-  pub no_zero : NoLeadingZero text
-  pub value : n ≡ digits_value 10 text
-  pub within : n ≤ most
+use Rattle.event_lines.specs.declared.event.Event.TheVariants.{Client, Server, Skip}
 
 -- a port is 1 to 65535
 pub record SpellsPort (text : List ℕ) (port : ℕ) : Type 0 where
@@ -68,20 +56,6 @@ SpellItems kind [] [] = Unit {0}
 SpellItems kind [] (item ∷ items) = ⊥
 SpellItems kind (text ∷ texts) [] = ⊥
 SpellItems kind (text ∷ texts) (item ∷ items) = SpellsItem kind text item × SpellItems kind texts items
-
-abbrev pub NoSpace : List ℕ → Type 0
-NoSpace [] = Unit {0}
-NoSpace (b ∷ bs) = (b ≢ 32) × NoSpace bs
-
--- no word has a space
-abbrev pub AreApart : List (List ℕ) → Type 0
-AreApart [] = Unit {0}
-AreApart (word ∷ words) = NoSpace word × AreApart words
-
--- words, each behind exactly one space
-abbrev pub spaced : List (List ℕ) → List ℕ
-spaced [] = []
-spaced (word ∷ words) = 32 ∷ (word ++ spaced words)
 
 -- `request Q ORIGIN`
 pub record SpellsRequest (text : List ℕ) (number : ℕ) (origin : Origin) : Type 0 where
@@ -171,6 +145,7 @@ SpellsKind text (Client Network) = text ≡ spaced (codes "network" ∷ [])
 SpellsKind text (Client Tick) = text ≡ spaced (codes "tick" ∷ [])
 SpellsKind text (Client (Who origin)) = SpellsWho text origin
 SpellsKind text (Client Stats) = text ≡ spaced (codes "stats" ∷ [])
+SpellsKind text (Server act) = SpellsAct text act
 SpellsKind text Skip = ⊥
 
 -- an empty line, or one that begins with `#`

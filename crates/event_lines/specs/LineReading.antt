@@ -1,15 +1,15 @@
--- Reading a line: its moment, its kind, and the fields of the kind. A further kind is one case of `kind_reading`, and the
--- reading of its fields.
+-- Reading a line: its moment, its kind, and the fields of the kind. A further kind is one case of `kind_reading`, or
+-- of `server_reading`, and the reading of its fields.
 use Rattle.std.specs.Prelude.{ℕ, ◌+◌, Bool, true, nat_eq, List, [], ◌∷◌, codes, Result, Ok, unwrap_or, if◌then◌else◌}
-use Rattle.std.specs.Cmp.Lexicographic.{pointwise}
 use Rattle.alt_base.specs.declared.refusal.At.{At}
 use Rattle.origin_values.specs.HostReading.{read_addr}
 use Rattle.route_events.specs.declared.fact.Fact.TheVariants.{Request, Opened, Failed, Closed, Response, Input, Answer, Network, Tick, Who, Stats}
 use Rattle.event_lines.specs.AnswerReading.{items_reading}
 use Rattle.event_lines.specs.Fields.{number_of, port_of, proto_of, origin_of, names_of, octets_of, dns_name_of, answer_kind_of}
 use Rattle.event_lines.specs.Limits.{most_short, most_long, most_ttl}
-use Rattle.event_lines.specs.Parts.{Part, first_word, behind_word, refused, Reading, ◌>>=◌, next_word, value_or, field}
+use Rattle.event_lines.specs.Parts.{Part, first_word, behind_word, refused, Reading, ◌>>=◌, next_word, value_or, field, is_kind}
 use Rattle.event_lines.specs.ResponseReading.{status_reading, reply_reading}
+use Rattle.event_lines.specs.ServerReading.{server_reading}
 use Rattle.event_lines.specs.declared.event.Event.{Event}
 use Rattle.event_lines.specs.declared.event.Event.TheVariants.{Client, Skip}
 use Rattle.event_lines.specs.declared.refusal.LineRefusal.{LineRefusal}
@@ -74,9 +74,6 @@ who_fields rest = do
   origin ← field origin_of rest
   Ok (Client (Who origin.0), origin.1)
 
-abbrev pub is_kind : List ℕ → List ℕ → Bool
-is_kind kind word = pointwise nat_eq kind word
-
 -- what a kind's fields say
 abbrev pub kind_reading : Part → Part → Reading Event
 kind_reading kind rest =
@@ -91,7 +88,7 @@ kind_reading kind rest =
     else (if is_kind kind.text (codes "tick") then Ok (Client Tick, rest)
     else (if is_kind kind.text (codes "who") then who_fields rest
     else (if is_kind kind.text (codes "stats") then Ok (Client Stats, rest)
-    else refused kind.place UnknownKind))))))))))
+    else server_reading kind rest))))))))))
 
 -- nothing is left, or a field follows the last one
 abbrev pub nothing_at : List ℕ → ℕ → Result (Unit {0}) (At LineRefusal)

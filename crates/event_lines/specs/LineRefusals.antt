@@ -1,4 +1,4 @@
--- The table of refusals of lines, each with its place, by how the line splits. A further kind is one case of `kinds`.
+-- The table of refusals of lines, each with its place, by how the line splits. A further kind is one case of `kinds`, or of `server_kinds`.
 use Rattle.std.specs.Prelude.{◌≡◌, ◌≢◌, ◌⊎◌, ℕ, ◌+◌, ◌≤◌, List, [], ◌∷◌, ◌++◌, length, codes}
 use Rattle.dns_names.specs.TextGrammar.{SpellsText}
 use Rattle.origin_values.specs.HostGrammar.{SpellsAddr}
@@ -6,12 +6,15 @@ use Rattle.origin_values.specs.OriginGrammar.{SpellsOrigin}
 use Rattle.origin_values.specs.declared.address.Addr.{Addr}
 use Rattle.origin_values.specs.declared.origin.Origin.{Origin}
 use Rattle.origin_values.specs.declared.proto.Proto.{Proto}
+use Rattle.altsvc_grammar.specs.declared.alt.Alt.{Alt}
 use Rattle.coalescing.specs.NamesGrammar.{SpellsNames}
 use Rattle.coalescing.specs.declared.cert_name.CertName.{CertName}
 use Rattle.event_lines.specs.EventTexts.{answer_kind_text}
 use Rattle.event_lines.specs.Limits.{most_short, most_long, most_ttl}
-use Rattle.event_lines.specs.LineGrammar.{SpellsNumber, SpellsPort, SpellsStatus, SpellsProto, SpellsOctets, SpellsAnswerKind, SpellsItem, SpellItems, NoSpace, AreApart, spaced, IsSkipped, SpellsLine}
+use Rattle.event_lines.specs.LineGrammar.{SpellsPort, SpellsStatus, SpellsProto, SpellsOctets, SpellsAnswerKind, SpellsItem, SpellItems, IsSkipped, SpellsLine}
+use Rattle.event_lines.specs.WordGrammar.{SpellsNumber, NoSpace, AreApart, spaced}
 use Rattle.event_lines.specs.ResponseGrammar.{Field, is_field_byte, is_word_byte, SpellsField, SpellFields, tabbed, most_fields}
+use Rattle.event_lines.specs.ServerLines.{SpellsAlts}
 use Rattle.field_text.specs.Runs.{AllIn, BeginsIn}
 use Rattle.event_lines.specs.declared.answer_kind.AnswerKind.{AnswerKind}
 use Rattle.event_lines.specs.declared.event.Event.{Event}
@@ -43,18 +46,32 @@ HasForm OfName word = (name : List (List ℕ)) × SpellsText word name
 HasForm OfAnswerKind word = (kind : AnswerKind) × SpellsAnswerKind word kind
 
 -- words of these forms in order, and behind them nothing, or a status and the fields of a response, or the kind of an answer,
--- its TTL and what it brings
+-- its TTL and what it brings, or a value of Alt-Svc up to the end
 pub data Forms : Type 0 where
   NoMore : Forms
   Then : (form : Form) → (more : Forms) → Forms
   StatusAndFields : Forms
   KindAndItems : Forms
+  ValueToEnd : Forms
 
 -- the kinds, each with the forms of its fields
 pub record Kind : Type 0 where
   pub name : List ℕ
   pub forms : Forms
 
+-- the kinds of the server's acts
+abbrev pub server_kinds : List Kind
+server_kinds =
+    record { name = codes "serve"; forms = Then OfOrigin NoMore }
+    ∷ record { name = codes "unserve"; forms = Then OfOrigin NoMore }
+    ∷ record { name = codes "offer"; forms = Then OfOrigin ValueToEnd }
+    ∷ record { name = codes "withdraw"; forms = Then OfOrigin NoMore }
+    ∷ record { name = codes "announce"; forms = NoMore }
+    ∷ record { name = codes "deliver"; forms = Then (OfNumber most_short) (Then (OfNumber most_long) NoMore) }
+    ∷ record { name = codes "ask"; forms = Then (OfNumber most_short) NoMore }
+    ∷ []
+
+-- all kinds
 abbrev pub kinds : List Kind
 kinds =
     record { name = codes "request"; forms = Then (OfNumber most_short) (Then OfOrigin NoMore) }
@@ -68,7 +85,7 @@ kinds =
     ∷ record { name = codes "tick"; forms = NoMore }
     ∷ record { name = codes "who"; forms = Then OfOrigin NoMore }
     ∷ record { name = codes "stats"; forms = NoMore }
-    ∷ []
+    ∷ server_kinds
 
 -- the first kind of this name has fields of these forms
 abbrev pub IsAmong : List Kind → List ℕ → Forms → Type 0
@@ -212,12 +229,25 @@ KindRefusedAt begin text place reason =
     ⊎ (IsBad OfAnswerKind begin text place reason
     ⊎ IsBehindKind begin text (λ kind next rest. TtlRefusedAt kind next rest place reason))
 
+-- what is left behind a space is no value of Alt-Svc, or `clear`: the place is its first byte
+pub record IsNoOffer (begin : ℕ) (text : List ℕ) (place : ℕ) (reason : LineRefusal) : Type 0 where
+  pub value : List ℕ
+  pub spelled : text ≡ 32 ∷ value
+  pub bad : (alts : List Alt) → ¬ (SpellsAlts value alts)
+  pub at : place ≡ begin + 1
+  pub why : reason ≡ BadField
+
+-- a value of Alt-Svc other than `clear` is to stand in a text that begins at this place, up to the end
+abbrev pub ValueRefusedAt : ℕ → List ℕ → ℕ → LineRefusal → Type 0
+ValueRefusedAt begin text place reason = IsMissing begin text place reason ⊎ IsNoOffer begin text place reason
+
 -- fields of these forms are to stand in a text that begins at this place, and from left to right this is the first
 -- that is wrong
 abbrev pub FieldsRefusedAt : Forms → ℕ → List ℕ → ℕ → LineRefusal → Type 0
 FieldsRefusedAt NoMore begin text place reason = IsExtra begin text place reason
 FieldsRefusedAt StatusAndFields begin text place reason = StatusRefusedAt begin text place reason
 FieldsRefusedAt KindAndItems begin text place reason = KindRefusedAt begin text place reason
+FieldsRefusedAt ValueToEnd begin text place reason = ValueRefusedAt begin text place reason
 FieldsRefusedAt (Then form forms) begin text place reason =
     IsMissing begin text place reason
     ⊎ (IsBad form begin text place reason

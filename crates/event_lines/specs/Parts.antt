@@ -1,5 +1,6 @@
 -- The parts of a line between its spaces, and reading them from left to right.
 use Rattle.std.specs.Prelude.{ℕ, ◌+◌, Bool, nat_eq, List, [], ◌∷◌, length, Option, Some, None, Result, Ok, Err, if◌then◌else◌}
+use Rattle.std.specs.Cmp.Lexicographic.{pointwise}
 use Rattle.alt_base.specs.declared.refusal.At.{At}
 use Rattle.event_lines.specs.declared.refusal.LineRefusal.{LineRefusal}
 use Rattle.event_lines.specs.declared.refusal.LineRefusal.TheVariants.{BadField}
@@ -31,6 +32,9 @@ behind_word part = record { text = from_space part.text; place = part.place + le
 
 abbrev pub refused : {A : Type 0} → ℕ → LineRefusal → Result A (At LineRefusal)
 refused place reason = Err (record { place = place; reason = reason })
+
+abbrev pub is_kind : List ℕ → List ℕ → Bool
+is_kind kind word = pointwise nat_eq kind word
 
 -- a value and what is left of the line behind it, or a refusal
 abbrev pub Reading : Type 0 → Type 0

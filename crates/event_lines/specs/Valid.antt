@@ -4,6 +4,7 @@ use Rattle.dns_names.specs.Names.{IsName}
 use Rattle.origin_values.specs.Valid.{IsAddr, IsOrigin}
 use Rattle.origin_values.specs.declared.address.Addr.{Addr}
 use Rattle.origin_values.specs.declared.address.Addr.TheVariants as address
+use Rattle.altsvc_grammar.specs.Valid.{AreListed}
 use Rattle.coalescing.specs.NamesWritten.{HaveText}
 use Rattle.coalescing.specs.declared.cert_name.CertName.{CertName}
 use Rattle.field_text.specs.DeltaGrammar.{greatest_delta_seconds}
@@ -17,7 +18,9 @@ use Rattle.event_lines.specs.Limits.{most_short, most_long, most_port, most_stat
 use Rattle.event_lines.specs.Parts.{is_space}
 use Rattle.event_lines.specs.ResponseGrammar.{is_value_byte}
 use Rattle.event_lines.specs.declared.event.Event.{Event}
-use Rattle.event_lines.specs.declared.event.Event.TheVariants.{Client, Skip}
+use Rattle.event_lines.specs.declared.event.Event.TheVariants.{Client, Server, Skip}
+use Rattle.event_lines.specs.declared.server_act.ServerAct.{ServerAct}
+use Rattle.event_lines.specs.declared.server_act.ServerAct.TheVariants.{Serve, Unserve, Offer, Withdraw, Announce, Deliver, Ask}
 
 pub record IsOpened (attempt : ℕ) (addr : Addr) (port : ℕ) (names : List CertName) : Type 0 where
   pub attempt_within : attempt ≤ most_long
@@ -78,9 +81,20 @@ IsFact Tick = Unit {0}
 IsFact (Who origin) = IsOrigin origin
 IsFact Stats = Unit {0}
 
+-- alternatives that are offered are at least one, and no two of one key
+abbrev pub IsServerAct : ServerAct → Type 0
+IsServerAct (Serve origin) = IsOrigin origin
+IsServerAct (Unserve origin) = IsOrigin origin
+IsServerAct (Offer origin alts) = IsOrigin origin × AreListed alts
+IsServerAct (Withdraw origin) = IsOrigin origin
+IsServerAct Announce = Unit {0}
+IsServerAct (Deliver message conn) = (message ≤ most_short) × (conn ≤ most_long)
+IsServerAct (Ask request) = request ≤ most_short
+
 -- a skipped line stands at the moment 0
 abbrev pub IsEvent : ℕ → Event → Type 0
 IsEvent now (Client fact) = (now ≤ most_short) × IsFact fact
+IsEvent now (Server act) = (now ≤ most_short) × IsServerAct act
 IsEvent now Skip = now ≡ 0
 
 -- at most 65,536 octets come at once, and each record has at most so many

@@ -5,6 +5,7 @@ ghost use Rattle.event_lines.specs.HaveLines.{HasText};
 use crate::Event;
 use crate::answer_line::append_answer;
 use crate::pieces::{append, append_number};
+use crate::server_line::append_act;
 use alt_base::{Bytes, ListOf, Moment, NoMemory};
 use coalescing::{CertNames, write_names};
 use origin_values::{Addr, Proto};
@@ -13,7 +14,7 @@ use std::alloc::Global;
 
 /// The line of an event, without a newline: the moment, a space, and what happened, as `read_line` reads it. The line
 /// of a skipped one is empty, whatever the moment. Octets are written in lower-case hex, the name of an answer with its
-/// final dot. A frame that came whole has no line.
+/// final dot, and alternatives in the canonical text of a value of Alt-Svc (RFC 7838 3). A frame that came whole has no line.
 pub fn write_event(alloc: Global, now: Moment, event: &Event) -> Result<Bytes, NoMemory>
     requires { HasText event.now }
     ensures { IfOk result (λ line. line ≡ event_text now.0 event.now) }
@@ -24,6 +25,11 @@ pub fn write_event(alloc: Global, now: Moment, event: &Event) -> Result<Bytes, N
             append_number(&mut line, alloc, u64::from(now.0))?;
             append(&mut line, b" ")?;
             append_fact(&mut line, alloc, fact)?;
+        }
+        Event::Server(act) => {
+            append_number(&mut line, alloc, u64::from(now.0))?;
+            append(&mut line, b" ")?;
+            append_act(&mut line, alloc, act)?;
         }
         Event::Skip => {}
     }

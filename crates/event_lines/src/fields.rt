@@ -1,9 +1,11 @@
 ghost use Rattle.std.specs.Prelude.{◌≡◌, ◌<◌, ◌^◌, length, IfOk};
 ghost use Rattle.event_lines.specs.Fields.{port_of, status_of, proto_of, origin_of, names_of, octets_of, dns_name_of, answer_kind_of};
+ghost use Rattle.event_lines.specs.ServerReading.{alts_of};
 
 use crate::answer_kind::AnswerKind;
 use crate::number::number_of;
 use alt_base::{Bytes, ListOf, NoMemory, Refused};
+use altsvc_grammar::{AltSvc, Alts, parse};
 use coalescing::{CertNames, parse_names};
 use dns_names::Name;
 use hex::FromHexError;
@@ -119,5 +121,17 @@ pub(crate) fn octets_of(alloc: Global, text: &[u8]) -> Result<Option<Bytes>, NoM
         Ok(octets) => Ok(Some(ListOf::from_vec(octets))),
         Err(FromHexError::OutOfMemory) => Err(NoMemory),
         Err(_) => Ok(None),
+    }
+}
+
+// The alternatives that a value of Alt-Svc lists, if a text spells one other than `clear`.
+pub(crate) fn alts_of(alloc: Global, text: &[u8]) -> Result<Option<Alts>, NoMemory>
+    ensures { IfOk result (λ alts. alts ≡ alts_of text.now) }
+{
+    match parse(alloc, text) {
+        Ok(AltSvc::List(alts)) => Ok(Some(alts)),
+        Ok(AltSvc::Clear) => Ok(None),
+        Err(Refused::NoMemory) => Err(NoMemory),
+        Err(Refused::At { .. }) => Ok(None),
     }
 }

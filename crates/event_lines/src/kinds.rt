@@ -3,6 +3,7 @@ ghost use Rattle.event_lines.specs.Reads.{Reads, MayRead};
 
 use crate::line_reader::LineReader;
 use crate::part::Part;
+use crate::server_kinds::read_server_kind;
 use crate::{Event, LineRefusal};
 use alt_base::{At, Refused};
 use route_events::Fact;
@@ -39,10 +40,7 @@ pub(crate) fn read_kind(
     } else if kind.text == b"stats".as_slice() {
         Ok(Event::Client(Fact::Stats))
     } else {
-        Err(Refused::At {
-            place: kind.place,
-            reason: LineRefusal::UnknownKind,
-        })
+        read_server_kind(alloc, kind, reader)
     }
 }
 

@@ -30,7 +30,8 @@ pub fn spelled_events_are_valid()
 {}
 
 /// The line that an event is written as says it, and is read back as it: each event that a line may say, but for a
-/// response whose value of Alt-Svc is joined from several fields and ends with a space.
+/// response whose value of Alt-Svc is joined from several fields and ends with a space, and for an offer whose
+/// alternatives have a text of more than 16,384 bytes, which is no value of Alt-Svc.
 pub fn written_events_are_read_back()
     ensures spelled { (now : ℕ) (event : Event) → HasLine now event → SpellsLine (event_text now event) now event }
     ensures back { (now : ℕ) (event : Event) → HasLine now event → line_reading (event_text now event) ≡ Ok (now, event) }

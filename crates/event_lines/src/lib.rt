@@ -22,6 +22,9 @@ mod refusal;
 mod response;
 mod response_field;
 mod route_words;
+mod server_act;
+mod server_kinds;
+mod server_line;
 #[cfg(test)]
 mod tests;
 
@@ -31,3 +34,4 @@ pub use event_line::write_event;
 pub use laws::{lines_are_read, one_line, spelled_events_are_valid, written_events_are_read_back};
 pub use reading::read_line;
 pub use refusal::LineRefusal;
+pub use server_act::ServerAct;

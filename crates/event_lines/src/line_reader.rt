@@ -7,6 +7,7 @@ ghost use Rattle.event_lines.specs.LineReading.{moment_reading, end_reading};
 ghost use Rattle.event_lines.specs.Reads.{Reads, MayRead};
 ghost use Rattle.event_lines.specs.ResponseGrammar.{is_word_byte};
 ghost use Rattle.event_lines.specs.ResponseReading.{short_word, behind_short_word, next_short_word, status_reading, reply_reading};
+ghost use Rattle.event_lines.specs.ServerReading.{alts_reading};
 ghost use Rattle.field_text.specs.Runs.{run_of};
 ghost use Rattle.origin_values.specs.HostReading.{read_addr};
 
@@ -14,12 +15,14 @@ use crate::LineRefusal;
 use crate::answer_items::read_items;
 use crate::answer_kind::AnswerKind;
 use crate::fields::{
-    answer_kind_of, dns_name_of, names_of, octets_of, origin_of, port_of, proto_of, status_of,
+    alts_of, answer_kind_of, dns_name_of, names_of, octets_of, origin_of, port_of, proto_of,
+    status_of,
 };
 use crate::number::number_of;
 use crate::part::Part;
 use crate::response::{Reply, read_fields};
 use alt_base::{At, Bytes, Refused};
+use altsvc_grammar::Alts;
 use coalescing::CertNames;
 use dns_names::Name;
 use origin_values::{Addr, Origin, Proto};
@@ -220,6 +223,24 @@ impl<'a> LineReader<'a> {
         self.rest = &text[text.len()..];
         self.place += text.len() as u32;
         read_items(alloc, kind, text, place)
+    }
+
+    // Alternatives: a value of Alt-Svc other than `clear`, which is all that is left behind a space.
+    pub(crate) fn alts(&mut self, alloc: Global) -> Result<Alts, Refused<LineRefusal>>
+        ensures { MayRead result self.new (alts_reading self.old) }
+    {
+        match self.rest {
+            [] => Err(Refused::from(bad_field(self.place))),
+            [_, text @ ..] => {
+                let place = self.place + 1;
+                self.rest = &text[text.len()..];
+                self.place += 1 + text.len() as u32;
+                match alts_of(alloc, text)? {
+                    Some(alts) => Ok(alts),
+                    None => Err(Refused::from(bad_field(place))),
+                }
+            }
+        }
     }
 
     // The word in front: what stands before the first space or tab, or the end.

@@ -29,16 +29,25 @@ use std::alloc::Global;
 /// - `network`: the network changed;
 /// - `tick`: nothing but that time has come so far;
 /// - `who ORIGIN`: which connections are authoritative for an origin is asked;
-/// - `stats`: how much of each there is, is asked.
+/// - `stats`: how much of each there is, is asked;
+/// - `serve ORIGIN`: the server serves an origin from now on;
+/// - `unserve ORIGIN`: it doesn't any more;
+/// - `offer ORIGIN VALUE`: alternatives are advertised for an origin. VALUE is all that is left of the line, a value of Alt-Svc
+///   (RFC 7838 3) other than `clear`;
+/// - `withdraw ORIGIN`: all alternatives of an origin are taken back;
+/// - `announce`: the served origins are announced (RFC 8336);
+/// - `deliver N C`: message N of the server reaches connection C;
+/// - `ask Q`: the server answers request Q.
 ///
-/// A number has no leading zero. Moments and numbers of requests have 32 bits, those of attempts and connections 64. No
+/// A number has no leading zero. Moments and numbers of requests and messages have 32 bits, those of attempts and connections 64. No
 /// line says that a frame came whole: the rules make it of octets, of which a line has at most 65,536, as has each record.
 ///
 /// Refused, with the fields tried from left to right: `BadMoment` at 0 where what stands before the first space is no
 /// moment; `UnknownKind` at the kind, or at the length where it is missing; `BadField` at the first field that isn't of
 /// its form, or at the length where it is missing, and at the 65th field of a response; `ExtraField` behind the space that
 /// follows the last field, or the status of a response. What an answer brings ends at the line's end, so that a space there is
-/// `BadField` at the length.
+/// `BadField` at the length. A VALUE that is none, or `clear`, is `BadField` at its first byte, whatever is wrong in it, and
+/// nothing can follow it.
 pub fn read_line(alloc: Global, line: &[u8]) -> Result<(Moment, Event), Refused<LineRefusal>>
     requires { length line.now ≤ 65536 }
     ensures reading { IsRead result (line_reading line.now) }

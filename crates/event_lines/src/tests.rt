@@ -71,6 +71,41 @@ const WRITTEN: &[Written] = &[
         b"7 answer a\\.b.example. https 300 0001 00ff",
     ),
     (b"8 stats", b"8 stats"),
+    // The server's acts.
+    (
+        b"0 serve HTTPS://A.example:0443",
+        b"0 serve https://a.example",
+    ),
+    (
+        b"1 unserve http://[2001:DB8::1]:80",
+        b"1 unserve http://[2001:db8::1]",
+    ),
+    (
+        b"2 offer https://a.example h2=\":443\"",
+        b"2 offer https://a.example h2=\":443\"",
+    ),
+    (
+        b"2 offer HTTPS://a.example  h3=\":1\" ;MA=\"60\",,h2=\"B.example:8443\"; x=y; persist=1 ",
+        b"2 offer https://a.example h3=\":1\"; ma=60, h2=\"b.example:8443\"; persist=1",
+    ),
+    (
+        b"2 offer https://a.example h2=\":1\", h2=\":1\"; ma=5",
+        b"2 offer https://a.example h2=\":1\"",
+    ),
+    (
+        b"2 offer https://a.example clear=\":443\"",
+        b"2 offer https://a.example clear=\":443\"",
+    ),
+    (
+        b"3 withdraw https://a.example:8443",
+        b"3 withdraw https://a.example:8443",
+    ),
+    (b"4 announce", b"4 announce"),
+    (
+        b"5 deliver 4294967295 18446744073709551615",
+        b"5 deliver 4294967295 18446744073709551615",
+    ),
+    (b"6 ask 4294967295", b"6 ask 4294967295"),
     // Responses.
     (b"7 response 3 200", b"7 response 3 200"),
     (
@@ -173,6 +208,41 @@ const REFUSED: &[Row] = &[
     (b"0 stats ", 8, ExtraField),
     (b"0 stats now", 8, ExtraField),
     (b"0 request 1 https://\xff.example", 12, BadField),
+    // The server's acts.
+    (b"0 Serve https://a.example", 2, UnknownKind),
+    (b"0 server https://a.example", 2, UnknownKind),
+    (b"0 serve", 7, BadField),
+    (b"0 serve ", 8, BadField),
+    (b"0 serve a.example", 8, BadField),
+    (b"0 serve https://a.example ", 26, ExtraField),
+    (b"0 unserve https://a.example:0", 10, BadField),
+    (b"0 unserve https://a.example now", 28, ExtraField),
+    (b"0 offer", 7, BadField),
+    (b"0 offer ftp://a.example h2=\":443\"", 8, BadField),
+    (b"0 offer https://a.example", 25, BadField),
+    (b"0 offer https://a.example ", 26, BadField),
+    (b"0 offer https://a.example  ", 26, BadField),
+    (b"0 offer https://a.example clear", 26, BadField),
+    (
+        b"0 offer https://a.example h2=\":443\", clear",
+        26,
+        BadField,
+    ),
+    (b"0 offer https://a.example h2=\":0\"", 26, BadField),
+    (b"0 offer https://a.example h2=\":443\" now", 26, BadField),
+    (b"0 withdraw", 10, BadField),
+    (b"0 withdraw https://a.example ", 29, ExtraField),
+    (b"0 announce ", 11, ExtraField),
+    (b"0 announce now", 11, ExtraField),
+    (b"0 deliver", 9, BadField),
+    (b"0 deliver 4294967296 1", 10, BadField),
+    (b"0 deliver 1", 11, BadField),
+    (b"0 deliver 1 18446744073709551616", 12, BadField),
+    (b"0 deliver 1 2 ", 14, ExtraField),
+    (b"0 ask", 5, BadField),
+    (b"0 ask 01", 6, BadField),
+    (b"0 ask 4294967296", 6, BadField),
+    (b"0 ask 1 2", 8, ExtraField),
     // Responses.
     (b"0 Response 1 200", 2, UnknownKind),
     (b"0 response", 10, BadField),
@@ -241,6 +311,12 @@ fn events_that_are_read(rt: HostRuntime) -> Result<(), Fail> {
         body: AnswerBody::V4(addresses),
     });
     let got = read(rt.alloc(), b"5 answer a.example. a 60 192.0.2.1 192.0.2.2");
+    assert!(rt; got.ok() == Some((Moment(5), event)));
+    let event = Event::Server(ServerAct::Deliver {
+        message: 7,
+        conn: 8,
+    });
+    let got = read(rt.alloc(), b"5 deliver 7 8");
     assert!(rt; got.ok() == Some((Moment(5), event)));
     Ok(())
 }
