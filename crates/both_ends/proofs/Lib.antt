@@ -1,0 +1,7 @@
+mod Accepted
+mod MadeMessages
+mod Takings
+mod Deliveries
+mod Misdirections
+mod Given
+mod Taking
