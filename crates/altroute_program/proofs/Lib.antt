@@ -6,3 +6,4 @@ mod Pieces
 mod OneTurn
 mod Complete
 mod FitLines
+mod Taken

@@ -3,9 +3,9 @@ use Rattle.std.proofs.Common.{◌≡◌, ℕ, ◌+◌, ◌≤◌, ◌<◌, zero,
 use Rattle.std.specs.Prelude.{min}
 use Rattle.std.proofs.lemmas.List.{length_push}
 use Rattle.alt_base.specs.Devices.{Grew, Grew-more}
-use Rattle.route_events.specs.Journal.{Journal}
-use Rattle.router_core.specs.StandsFor.{StandsFor}
-use Rattle.router_core.specs.declared.router.Router.{Router}
+use Rattle.both_ends.specs.Histories.{History}
+use Rattle.both_ends.specs.StandsFor.{StandsFor}
+use Rattle.both_ends.specs.declared.both_ends.BothEnds.{BothEnds}
 use Rattle.event_lines.specs.LineReading.{line_reading}
 use Rattle.altroute_program.specs.declared.state.Replay.{Replay}
 use Rattle.altroute_show.specs.declared.status.Status.{Status}
@@ -20,7 +20,7 @@ use Rattle.altroute_program.proofs.Stays.{grows, stays}
 
 -- a line
 
-pub newline_reached : (old new : Replay) (bytes text more : List ℕ) (j k : Journal) → Reached old bytes text j → after_reading text j (old.lines + 1) (line_reading old.line) ≡ Going (text ++ more) k (old.lines + 1) → StandsFor new.router k → new.line ≡ [] → new.lines ≡ old.lines + 1 → new.taken ≡ old.taken + 1 → Reached new (bytes ++ 10 ∷ []) (text ++ more) k
+pub newline_reached : (old new : Replay) (bytes text more : List ℕ) (j k : History) → Reached old bytes text j → after_reading text j (old.lines + 1) (line_reading old.line) ≡ Going (text ++ more) k (old.lines + 1) → StandsFor new.ends k → new.line ≡ [] → new.lines ≡ old.lines + 1 → new.taken ≡ old.taken + 1 → Reached new (bytes ++ 10 ∷ []) (text ++ more) k
 newline_reached old new bytes text more j k r goes stands line lines taken = record {
   progress = newline_progress old bytes text j r ∙ goes ∙ ap (Going (text ++ more) k) (sym lines);
   stands = stands;
@@ -29,10 +29,10 @@ newline_reached old new bytes text more j k r goes stands line lines taken = rec
   short = rw line (omega arith);
 }
 
-pub newline_ok : (old new : Replay) (bytes text : List ℕ) (j : Journal) (before after : Option (List ℕ)) → Reached old bytes text j → LineEnds (Ok new.router) before after text (old.lines + 1) (after_reading text j (old.lines + 1) (line_reading old.line)) → new.line ≡ [] → new.lines ≡ old.lines + 1 → new.taken ≡ old.taken + 1 → BytesEnd (Ok tt) new before after (bytes ++ 10 ∷ []) text
+pub newline_ok : (old new : Replay) (bytes text : List ℕ) (j : History) (before after : Option (List ℕ)) → Reached old bytes text j → LineEnds (Ok new.ends) before after text (old.lines + 1) (after_reading text j (old.lines + 1) (line_reading old.line)) → new.line ≡ [] → new.lines ≡ old.lines + 1 → new.taken ≡ old.taken + 1 → BytesEnd (Ok tt) new before after (bytes ++ 10 ∷ []) text
 newline_ok old new bytes text j before after r ends line lines taken = (ends.0, ends.1, newline_reached old new bytes text ends.0 j ends.1 r ends.2 ends.3 line lines taken, ends.4)
 
-pub newline_error : (status : Status) (old new : Replay) (bytes text : List ℕ) (j : Journal) (before after : Option (List ℕ)) → Reached old bytes text j → old.taken < 67108864 → LineEnds (Err status) before after text (old.lines + 1) (after_reading text j (old.lines + 1) (line_reading old.line)) → BytesEnd (Err status) new before after (bytes ++ 10 ∷ []) text
+pub newline_error : (status : Status) (old new : Replay) (bytes text : List ℕ) (j : History) (before after : Option (List ℕ)) → Reached old bytes text j → old.taken < 67108864 → LineEnds (Err status) before after text (old.lines + 1) (after_reading text j (old.lines + 1) (line_reading old.line)) → BytesEnd (Err status) new before after (bytes ++ 10 ∷ []) text
 newline_error Done old new bytes text j before after r room ends = ends
 newline_error Refused old new bytes text j before after r room ends = (ends.0, newline_outcome old bytes text j r (omega (arith, r.taken, room)) ∙ ends.1, ends.2)
 newline_error Usage old new bytes text j before after r room ends = ends
@@ -45,7 +45,7 @@ newline_error TooLong old new bytes text j before after r room ends = absurd end
 
 -- a byte
 
-pub other_ok : (old new : Replay) (bytes text : List ℕ) (b : ℕ) (j : Journal) (told : Option (List ℕ)) → Reached old bytes text j → nat_eq b 10 ≡ false → length old.line < 65536 → new.router ≡ old.router → new.line ≡ old.line ++ b ∷ [] → new.lines ≡ old.lines → new.taken ≡ old.taken + 1 → BytesEnd (Ok tt) new told told (bytes ++ b ∷ []) text
+pub other_ok : (old new : Replay) (bytes text : List ℕ) (b : ℕ) (j : History) (told : Option (List ℕ)) → Reached old bytes text j → nat_eq b 10 ≡ false → length old.line < 65536 → new.ends ≡ old.ends → new.line ≡ old.line ++ b ∷ [] → new.lines ≡ old.lines → new.taken ≡ old.taken + 1 → BytesEnd (Ok tt) new told told (bytes ++ b ∷ []) text
 other_ok old new bytes text b j told r other room router line lines taken =
     let cut = other_cut bytes b other in (
       [],
@@ -60,13 +60,13 @@ other_ok old new bytes text b j told r other room router line lines taken =
       grew_nothing told,
     )
 
-pub full_ends : (old new : Replay) (bytes text : List ℕ) (b : ℕ) (j : Journal) (told : Option (List ℕ)) → Reached old bytes text j → old.taken ≡ 67108864 → BytesEnd (Err TooLong) new told told (bytes ++ b ∷ []) text
+pub full_ends : (old new : Replay) (bytes text : List ℕ) (b : ℕ) (j : History) (told : Option (List ℕ)) → Reached old bytes text j → old.taken ≡ 67108864 → BytesEnd (Err TooLong) new told told (bytes ++ b ∷ []) text
 full_ends old new bytes text b j told r full = ([], inr (full_outcome old bytes text j b r (sym r.taken ∙ full) ∙ ap (λ t. Stopped t AtLongInput) (sym (append-nil text))), grew_nothing told)
 
-pub long_ends : (old new : Replay) (bytes text : List ℕ) (b : ℕ) (j : Journal) (told : Option (List ℕ)) → Reached old bytes text j → nat_eq b 10 ≡ false → old.taken < 67108864 → 65536 ≤ length old.line → BytesEnd (Err TooLong) new told told (bytes ++ b ∷ []) text
+pub long_ends : (old new : Replay) (bytes text : List ℕ) (b : ℕ) (j : History) (told : Option (List ℕ)) → Reached old bytes text j → nat_eq b 10 ≡ false → old.taken < 67108864 → 65536 ≤ length old.line → BytesEnd (Err TooLong) new told told (bytes ++ b ∷ []) text
 long_ends old new bytes text b j told r other room full = ([], inl (long_outcome old bytes text j b r other (omega (arith, r.taken, room)) full ∙ ap (λ t. Stopped t AtLongLine) (sym (append-nil text))), grew_nothing told)
 
-pub out_of_memory : (old new : Replay) (bytes text : List ℕ) (b : ℕ) (j : Journal) (told : Option (List ℕ)) → Reached old bytes text j → old.taken < 67108864 → BytesEnd (Err NoMemory) new told told (bytes ++ b ∷ []) text
+pub out_of_memory : (old new : Replay) (bytes text : List ℕ) (b : ℕ) (j : History) (told : Option (List ℕ)) → Reached old bytes text j → old.taken < 67108864 → BytesEnd (Err NoMemory) new told told (bytes ++ b ∷ []) text
 out_of_memory old new bytes text b j told r room =
     let g = grows bytes (b ∷ []) false in
     (g.0, 0, g.1 ∙ ap (λ t. t ++ g.0) (ap text_of (going_is old bytes text j r (omega (arith, r.taken, room)))), grew_nothing told)
@@ -122,12 +122,12 @@ piece_error TooLong new now rest text more before middle after grew ends = (more
 
 -- the end of the input
 
-pub finish_empty : (r : Replay) (bytes text : List ℕ) (j : Journal) (told : Option (List ℕ)) → Reached r bytes text j → r.taken ≤ 67108864 → r.line ≡ [] → FinishEnds Done told told bytes text
+pub finish_empty : (r : Replay) (bytes text : List ℕ) (j : History) (told : Option (List ℕ)) → Reached r bytes text j → r.taken ≤ 67108864 → r.line ≡ [] → FinishEnds Done told told bytes text
 finish_empty r bytes text j told reached within empty =
     let e = ended_is r bytes text j reached (omega (arith, reached.taken, within)) empty in
     ([], ap stop_of e, ap text_of e ∙ sym (append-nil text), grew_nothing told)
 
-pub finish_error : (status : Status) (r : Replay) (bytes text : List ℕ) (j : Journal) (before after : Option (List ℕ)) → Reached r bytes text j → r.taken ≤ 67108864 → 0 < length r.line → LineEnds (Err status) before after text (r.lines + 1) (after_reading text j (r.lines + 1) (line_reading r.line)) → FinishEnds status before after bytes text
+pub finish_error : (status : Status) (r : Replay) (bytes text : List ℕ) (j : History) (before after : Option (List ℕ)) → Reached r bytes text j → r.taken ≤ 67108864 → 0 < length r.line → LineEnds (Err status) before after text (r.lines + 1) (after_reading text j (r.lines + 1) (line_reading r.line)) → FinishEnds status before after bytes text
 finish_error Done r bytes text j before after reached within more ends = absurd ends
 finish_error Refused r bytes text j before after reached within more ends =
     let e : outcome bytes true ≡ Stopped (text ++ ends.0) AtRefused = ended_more r bytes text j reached (omega (arith, reached.taken, within)) more ∙ ends.1 in
@@ -141,15 +141,15 @@ finish_error NoMemory r bytes text j before after reached within more ends =
     (g.0, ap text_of (ended_more r bytes text j reached (omega (arith, reached.taken, within)) more) ∙ g.1, ends)
 finish_error TooLong r bytes text j before after reached within more ends = ends
 
-pub finish_ok : (router : Router) (r : Replay) (bytes text : List ℕ) (j : Journal) (before after : Option (List ℕ)) → Reached r bytes text j → r.taken ≤ 67108864 → 0 < length r.line → LineEnds (Ok router) before after text (r.lines + 1) (after_reading text j (r.lines + 1) (line_reading r.line)) → FinishEnds Done before after bytes text
+pub finish_ok : (router : BothEnds) (r : Replay) (bytes text : List ℕ) (j : History) (before after : Option (List ℕ)) → Reached r bytes text j → r.taken ≤ 67108864 → 0 < length r.line → LineEnds (Ok router) before after text (r.lines + 1) (after_reading text j (r.lines + 1) (line_reading r.line)) → FinishEnds Done before after bytes text
 finish_ok router r bytes text j before after reached within more ends =
     let e : outcome bytes true ≡ Going (text ++ ends.0) ends.1 (r.lines + 1) = ended_more r bytes text j reached (omega (arith, reached.taken, within)) more ∙ ends.2 in
     (ends.0, ap stop_of e, ap text_of e, ends.4)
 
-pub finish_any : (result : Result Router Status) (r : Replay) (bytes text : List ℕ) (j : Journal) (before after : Option (List ℕ)) → Reached r bytes text j → r.taken ≤ 67108864 → 0 < length r.line → LineEnds result before after text (r.lines + 1) (after_reading text j (r.lines + 1) (line_reading r.line)) → FinishEnds (status_after result) before after bytes text
+pub finish_any : (result : Result BothEnds Status) (r : Replay) (bytes text : List ℕ) (j : History) (before after : Option (List ℕ)) → Reached r bytes text j → r.taken ≤ 67108864 → 0 < length r.line → LineEnds result before after text (r.lines + 1) (after_reading text j (r.lines + 1) (line_reading r.line)) → FinishEnds (status_after result) before after bytes text
 finish_any (Ok router) r bytes text j before after reached within more ends = finish_ok router r bytes text j before after reached within more ends
 finish_any (Err status) r bytes text j before after reached within more ends = finish_error status r bytes text j before after reached within more ends
 
 -- the same, of the line as it was seen
-pub seen_line : (result : Result Router Status) (before after : Option (List ℕ)) (text : List ℕ) (j : Journal) (n : ℕ) (seen line : List ℕ) → seen ≡ line → LineEnds result before after text n (after_reading text j n (line_reading seen)) → LineEnds result before after text n (after_reading text j n (line_reading line))
+pub seen_line : (result : Result BothEnds Status) (before after : Option (List ℕ)) (text : List ℕ) (j : History) (n : ℕ) (seen line : List ℕ) → seen ≡ line → LineEnds result before after text n (after_reading text j n (line_reading seen)) → LineEnds result before after text n (after_reading text j n (line_reading line))
 seen_line result before after text j n seen line same ends = subst (λ xs. LineEnds result before after text n (after_reading text j n (line_reading xs))) same ends

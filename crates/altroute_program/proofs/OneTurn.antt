@@ -2,7 +2,7 @@
 use Rattle.std.proofs.Common.{◌≡◌, ℕ, ◌+◌, ◌≤◌, true, false, List, [], ◌++◌, length, take, Ok, Err, refl, ap, sym, ◌∙◌, subst, arith, append-nil, inl, inr}
 use Rattle.alt_base.specs.Devices.{Grew, Took, IsAtEnd, Grew-more, Took-more, Took-nil}
 use Rattle.alt_base.specs.Faults.{Rose}
-use Rattle.route_events.specs.Journal.{Journal}
+use Rattle.both_ends.specs.Histories.{History}
 use Rattle.altroute_program.specs.declared.state.Replay.{Replay}
 use Rattle.altroute_show.specs.declared.status.Status.{Status}
 use Rattle.altroute_show.specs.declared.status.Status.TheVariants.{Done, Refused, Usage, ReadFault, WriteFault, NoMemory, TooLong}
@@ -19,7 +19,7 @@ pub begins : (r : Replay) (first : Seen) → Reached r [] [] [] → HasRun r fir
 begins r first reached = ([], [], [], record { reached = reached; moves = record { took = Took-nil first.left; grew = grew_nothing first.written }; no_fault = record { source = refl; sink = refl } })
 
 -- what the end of the input makes of a run
-pub finish_ends : (status : Status) (replay : Replay) (first old new : Seen) (bytes text : List ℕ) (j : Journal) → Runs replay first old bytes text j → FinishEnds status old.written new.written bytes text → SinkCause status old.write_faults new.write_faults → Took old.left new.left [] → new.source_ended ≡ true → IsAtEnd old.left → new.read_faults ≡ old.read_faults → ReplayEnds status first new
+pub finish_ends : (status : Status) (replay : Replay) (first old new : Seen) (bytes text : List ℕ) (j : History) → Runs replay first old bytes text j → FinishEnds status old.written new.written bytes text → SinkCause status old.write_faults new.write_faults → Took old.left new.left [] → new.source_ended ≡ true → IsAtEnd old.left → new.read_faults ≡ old.read_faults → ReplayEnds status first new
 finish_ends status replay first old new bytes text j runs ends cause took end at_end same = by_status status ends cause
   where
     ended : AnsweredEnd new
@@ -69,7 +69,7 @@ finish_ends status replay first old new bytes text j runs ends cause took end at
     by_status TooLong ends cause = absurd ends
 
 -- what a piece makes of a run
-pub piece_runs : (replay next : Replay) (first old new : Seen) (bytes piece text : List ℕ) (j : Journal) → Runs replay first old bytes text j → BytesEnd (Ok tt) next old.written new.written (bytes ++ piece) text → Took old.left new.left piece → new.read_faults ≡ old.read_faults → new.write_faults ≡ old.write_faults → HasRun next first new
+pub piece_runs : (replay next : Replay) (first old new : Seen) (bytes piece text : List ℕ) (j : History) → Runs replay first old bytes text j → BytesEnd (Ok tt) next old.written new.written (bytes ++ piece) text → Took old.left new.left piece → new.read_faults ≡ old.read_faults → new.write_faults ≡ old.write_faults → HasRun next first new
 piece_runs replay next first old new bytes piece text j runs ends took same kept = (
   bytes ++ piece,
   text ++ ends.0,
@@ -81,7 +81,7 @@ piece_runs replay next first old new bytes piece text j runs ends took same kept
   },
 )
 
-pub piece_ends : (status : Status) (replay next : Replay) (first old new : Seen) (bytes piece text : List ℕ) (j : Journal) → Runs replay first old bytes text j → BytesEnd (Err status) next old.written new.written (bytes ++ piece) text → SinkCause status old.write_faults new.write_faults → Took old.left new.left piece → new.read_faults ≡ old.read_faults → ReplayEnds status first new
+pub piece_ends : (status : Status) (replay next : Replay) (first old new : Seen) (bytes piece text : List ℕ) (j : History) → Runs replay first old bytes text j → BytesEnd (Err status) next old.written new.written (bytes ++ piece) text → SinkCause status old.write_faults new.write_faults → Took old.left new.left piece → new.read_faults ≡ old.read_faults → ReplayEnds status first new
 piece_ends status replay next first old new bytes piece text j runs ends cause took same = by_status status ends cause
   where
     all : List ℕ
@@ -122,7 +122,7 @@ piece_ends status replay next first old new bytes piece text j runs ends cause t
     )
 
 -- a read that failed
-pub read_fault : (replay : Replay) (first old new : Seen) (bytes text : List ℕ) (j : Journal) → Runs replay first old bytes text j → replay.taken ≤ 67108864 → new.left ≡ old.left → new.written ≡ old.written → new.write_faults ≡ old.write_faults → Rose old.read_faults new.read_faults → ReplayEnds ReadFault first new
+pub read_fault : (replay : Replay) (first old new : Seen) (bytes text : List ℕ) (j : History) → Runs replay first old bytes text j → replay.taken ≤ 67108864 → new.left ≡ old.left → new.written ≡ old.written → new.write_faults ≡ old.write_faults → Rose old.read_faults new.read_faults → ReplayEnds ReadFault first new
 read_fault replay first old new bytes text j runs within left written kept rose =
     let e = going_is replay bytes text j runs.reached (omega (arith, runs.reached.taken, within)) in (
       bytes,

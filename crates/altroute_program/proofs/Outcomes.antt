@@ -3,18 +3,16 @@ use Rattle.std.proofs.Common.{◌≡◌, ℕ, ◌+◌, ◌≤◌, ◌<◌, Bool,
 use Rattle.std.specs.Prelude.{nat_le}
 use Rattle.std.proofs.lemmas.List.{length_push, take_all, take_at}
 use Rattle.alt_base.specs.declared.refusal.At.{At}
-use Rattle.route_events.specs.declared.fact.Fact.{Fact}
-use Rattle.route_events.specs.declared.refusal.StepRefusal.{StepRefusal}
-use Rattle.route_events.specs.Journal.{Journal}
-use Rattle.route_events.specs.Step.{step, refusal, newest_actions}
+use Rattle.both_ends.specs.Histories.{History, event_refusal, server_output, client_actions}
+use Rattle.both_ends.specs.declared.fault.EndRefusal.{EndRefusal}
 use Rattle.event_lines.specs.declared.event.Event.{Event}
-use Rattle.event_lines.specs.declared.event.Event.TheVariants.{Client, Skip}
+use Rattle.event_lines.specs.declared.event.Event.TheVariants.{Client, Server, Skip}
 use Rattle.event_lines.specs.declared.refusal.LineRefusal.{LineRefusal}
 use Rattle.event_lines.specs.LineReading.{line_reading}
 use Rattle.altroute_program.specs.declared.state.Replay.{Replay}
 use Rattle.altroute_program.specs.Lines.{Cut, cut_lines, lines_of, is_empty_bytes}
-use Rattle.altroute_program.specs.Texts.{actions_text, refused_line, step_refusal_text, line_refusal_text}
-use Rattle.altroute_program.specs.Outcome.{Progress, Going, Stopped, AtLongLine, AtLongInput, after_step, after_event, after_reading, act, act_all, start, limited, outcome, text_of}
+use Rattle.altroute_program.specs.Texts.{output_text, refused_line, end_refusal_text, line_refusal_text}
+use Rattle.altroute_program.specs.Outcome.{Progress, Going, Stopped, AtLongLine, AtLongInput, after_taking, after_event, after_reading, act, act_all, start, limited, outcome, text_of}
 use Rattle.altroute_program.specs.Reached.{Reached}
 use Rattle.altroute_program.proofs.Cutting.{cut-push, act_all-append}
 use Rattle.std.proofs.Math.Bool.{and-true}
@@ -31,21 +29,21 @@ limited_small (Going text j lines) rest n short small =
     let b : nat_lt 67108864 n ≡ false = grind arith in
     rw (a, b) refl
 
-pub rest_short : (r : Replay) (bytes text : List ℕ) (j : Journal) → Reached r bytes text j → length (cut_lines bytes).rest ≤ 65536
+pub rest_short : (r : Replay) (bytes text : List ℕ) (j : History) → Reached r bytes text j → length (cut_lines bytes).rest ≤ 65536
 rest_short r bytes text j reached = subst (λ xs. length xs ≤ 65536) reached.line reached.short
 
 -- before the end, the lines so far
-pub going_is : (r : Replay) (bytes text : List ℕ) (j : Journal) → Reached r bytes text j → length bytes ≤ 67108864 → outcome bytes false ≡ Going text j r.lines
+pub going_is : (r : Replay) (bytes text : List ℕ) (j : History) → Reached r bytes text j → length bytes ≤ 67108864 → outcome bytes false ≡ Going text j r.lines
 going_is r bytes text j reached within =
     outcome_within bytes false within ∙ limited_small _ (cut_lines bytes).rest (length bytes) (rest_short r bytes text j reached) within ∙ reached.progress
 
 -- a line that isn't too long is acted on
-act_short : (text line : List ℕ) (j : Journal) (n : ℕ) → length line ≤ 65536 → act (Going text j n) line ≡ after_reading text j (n + 1) (line_reading line)
+act_short : (text line : List ℕ) (j : History) (n : ℕ) → length line ≤ 65536 → act (Going text j n) line ≡ after_reading text j (n + 1) (line_reading line)
 act_short text line j n short =
     let small : nat_lt 65536 (length line) ≡ false = grind arith in rw small refl
 
 -- behind a newline, the line that it ends
-pub newline_progress : (r : Replay) (bytes text : List ℕ) (j : Journal) → Reached r bytes text j → act_all start (cut_lines (bytes ++ 10 ∷ [])).whole ≡ after_reading text j (r.lines + 1) (line_reading r.line)
+pub newline_progress : (r : Replay) (bytes text : List ℕ) (j : History) → Reached r bytes text j → act_all start (cut_lines (bytes ++ 10 ∷ [])).whole ≡ after_reading text j (r.lines + 1) (line_reading r.line)
 newline_progress r bytes text j reached =
     ap (λ (c : Cut). act_all start c.whole) (cut-push bytes 10)
     ∙ act_all-append start (cut_lines bytes).whole ((cut_lines bytes).rest ∷ [])
@@ -53,7 +51,7 @@ newline_progress r bytes text j reached =
     ∙ ap (λ line. act (Going text j r.lines) line) (sym reached.line)
     ∙ act_short text r.line j r.lines reached.short
 
-pub newline_outcome : (r : Replay) (bytes text : List ℕ) (j : Journal) → Reached r bytes text j → length bytes < 67108864 → outcome (bytes ++ 10 ∷ []) false ≡ after_reading text j (r.lines + 1) (line_reading r.line)
+pub newline_outcome : (r : Replay) (bytes text : List ℕ) (j : History) → Reached r bytes text j → length bytes < 67108864 → outcome (bytes ++ 10 ∷ []) false ≡ after_reading text j (r.lines + 1) (line_reading r.line)
 newline_outcome r bytes text j reached room =
     let fits : length (bytes ++ 10 ∷ []) ≤ 67108864 = omega (arith, length_push bytes 10, room) in
     let nothing : (cut_lines (bytes ++ 10 ∷ [])).rest ≡ [] = ap (λ (c : Cut). c.rest) (cut-push bytes 10) in
@@ -70,26 +68,26 @@ not_empty [] h = absurd (omega arith)
 not_empty (x ∷ xs) h = refl
 
 -- at the end behind a newline
-pub ended_is : (r : Replay) (bytes text : List ℕ) (j : Journal) → Reached r bytes text j → length bytes ≤ 67108864 → r.line ≡ [] → outcome bytes true ≡ Going text j r.lines
+pub ended_is : (r : Replay) (bytes text : List ℕ) (j : History) → Reached r bytes text j → length bytes ≤ 67108864 → r.line ≡ [] → outcome bytes true ≡ Going text j r.lines
 ended_is r bytes text j reached within empty =
     let nothing : (cut_lines bytes).rest ≡ [] = sym reached.line ∙ empty in
     outcome_within bytes true within ∙ limited_small _ (cut_lines bytes).rest (length bytes) (rest_short r bytes text j reached) within ∙ rw nothing reached.progress
 
 -- at the end behind a line without one
-pub ended_more : (r : Replay) (bytes text : List ℕ) (j : Journal) → Reached r bytes text j → length bytes ≤ 67108864 → 0 < length r.line → outcome bytes true ≡ after_reading text j (r.lines + 1) (line_reading r.line)
+pub ended_more : (r : Replay) (bytes text : List ℕ) (j : History) → Reached r bytes text j → length bytes ≤ 67108864 → 0 < length r.line → outcome bytes true ≡ after_reading text j (r.lines + 1) (line_reading r.line)
 ended_more r bytes text j reached within more =
     let there : is_empty_bytes (cut_lines bytes).rest ≡ false = subst (λ xs. is_empty_bytes xs ≡ false) reached.line (not_empty r.line more) in
     outcome_within bytes true within ∙ limited_small _ (cut_lines bytes).rest (length bytes) (rest_short r bytes text j reached) within
     ∙ rw there (act_all-append start (cut_lines bytes).whole ((cut_lines bytes).rest ∷ []) ∙ ap (λ p. act p (cut_lines bytes).rest) reached.progress ∙ ap (act (Going text j r.lines)) (sym reached.line) ∙ act_short text r.line j r.lines reached.short)
 
 -- a byte too much stops the run: the input's, or the line's
-pub full_outcome : (r : Replay) (bytes text : List ℕ) (j : Journal) (b : ℕ) → Reached r bytes text j → length bytes ≡ 67108864 → outcome (bytes ++ b ∷ []) false ≡ Stopped text AtLongInput
+pub full_outcome : (r : Replay) (bytes text : List ℕ) (j : History) (b : ℕ) → Reached r bytes text j → length bytes ≡ 67108864 → outcome (bytes ++ b ∷ []) false ≡ Stopped text AtLongInput
 full_outcome r bytes text j b reached full =
     let more : nat_lt 67108864 (length (bytes ++ b ∷ [])) ≡ true = rw (length_push bytes b, full) refl in
     let short : nat_lt 65536 (length (cut_lines bytes).rest) ≡ false = let s = rest_short r bytes text j reached in grind arith in
     rw (take_at bytes (b ∷ []) 67108864 full, reached.progress, short, more) refl
 
-pub long_outcome : (r : Replay) (bytes text : List ℕ) (j : Journal) (b : ℕ) → Reached r bytes text j → nat_eq b 10 ≡ false → length bytes < 67108864 → 65536 ≤ length r.line → outcome (bytes ++ b ∷ []) false ≡ Stopped text AtLongLine
+pub long_outcome : (r : Replay) (bytes text : List ℕ) (j : History) (b : ℕ) → Reached r bytes text j → nat_eq b 10 ≡ false → length bytes < 67108864 → 65536 ≤ length r.line → outcome (bytes ++ b ∷ []) false ≡ Stopped text AtLongLine
 long_outcome r bytes text j b reached other room full =
     let fits : length (bytes ++ b ∷ []) ≤ 67108864 = omega (arith, length_push bytes b, room) in
     let cut = other_cut bytes b other in
@@ -100,15 +98,16 @@ long_outcome r bytes text j b reached other room full =
 
 -- what a line adds to the text
 
-step_grows : (text : List ℕ) (j : Journal) (n now : ℕ) (fact : Fact) (why : Option StepRefusal) → (more : List ℕ) × (text_of (after_step text j n now fact why) ≡ text ++ more)
-step_grows text j n now fact None = (actions_text (newest_actions (step j now fact)), refl)
-step_grows text j n now fact (Some why) = (refused_line n (step_refusal_text why), refl)
+taking_grows : (text : List ℕ) (h : History) (n now : ℕ) (event : Event) (why : Option EndRefusal) → (more : List ℕ) × (text_of (after_taking text h n now event why) ≡ text ++ more)
+taking_grows text h n now event None = (output_text (server_output h event) (client_actions h now event), refl)
+taking_grows text h n now event (Some why) = (refused_line n (end_refusal_text why), refl)
 
-event_grows : (text : List ℕ) (j : Journal) (n now : ℕ) (event : Event) → (more : List ℕ) × (text_of (after_event text j n now event) ≡ text ++ more)
-event_grows text j n now Skip = ([], sym (append-nil text))
-event_grows text j n now (Client fact) = step_grows text j n now fact (refusal j now fact)
+event_grows : (text : List ℕ) (h : History) (n now : ℕ) (event : Event) → (more : List ℕ) × (text_of (after_event text h n now event) ≡ text ++ more)
+event_grows text h n now Skip = ([], sym (append-nil text))
+event_grows text h n now (Client fact) = taking_grows text h n now (Client fact) (event_refusal h now (Client fact))
+event_grows text h n now (Server act) = taking_grows text h n now (Server act) (event_refusal h now (Server act))
 
-pub reading_grows : (text : List ℕ) (j : Journal) (n : ℕ) (read : Result (ℕ × Event) (At LineRefusal)) → (more : List ℕ) × (text_of (after_reading text j n read) ≡ text ++ more)
+pub reading_grows : (text : List ℕ) (j : History) (n : ℕ) (read : Result (ℕ × Event) (At LineRefusal)) → (more : List ℕ) × (text_of (after_reading text j n read) ≡ text ++ more)
 reading_grows text j n (Ok read) = event_grows text j n read.0 read.1
 reading_grows text j n (Err at) = (refused_line n (line_refusal_text at), refl)
 

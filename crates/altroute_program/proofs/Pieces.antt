@@ -2,7 +2,7 @@
 use Rattle.std.proofs.Common.{◌≡◌, ℕ, ◌+◌, ◌<◌, List, [], ◌∷◌, ◌++◌, length, take, drop, get_or, Option, Ok, Err, refl, ap, sym, ◌∙◌, subst, arith, append_assoc, append-nil, suc, zero, add-one}
 use Rattle.std.proofs.lemmas.List.{take-append-drop}
 use Rattle.alt_base.specs.Devices.{Grew, Grew-more}
-use Rattle.route_events.specs.Journal.{Journal}
+use Rattle.both_ends.specs.Histories.{History}
 use Rattle.altroute_program.specs.declared.state.Replay.{Replay}
 use Rattle.altroute_show.specs.declared.status.Status.{Status}
 use Rattle.altroute_program.specs.Reached.{Reached, BytesEnd}
@@ -12,7 +12,7 @@ use Rattle.altroute_program.proofs.Lines.{piece_error}
 -- how far some bytes behind those of a start have come
 abbrev pub Comes : Replay → Replay → List ℕ → Option (List ℕ) → Option (List ℕ) → Type 0
 Comes first now piece before after =
-    (bytes text : List ℕ) (j : Journal) → Reached first bytes text j → (more : List ℕ) × (k : Journal) × Reached now (bytes ++ piece) (text ++ more) k × Grew before after more
+    (bytes text : List ℕ) (j : History) → Reached first bytes text j → (more : List ℕ) × (k : History) × Reached now (bytes ++ piece) (text ++ more) k × Grew before after more
 
 pub comes_nothing : (r : Replay) (told : Option (List ℕ)) → Comes r r [] told told
 comes_nothing r told = λ bytes text j reached.
@@ -28,7 +28,7 @@ take_one xs i d within = rw add-one (take_more xs i d within)
 
 -- one byte more
 pub comes_more : (first old new : Replay) (piece : List ℕ) (i b : ℕ) (before middle after : Option (List ℕ)) → i < length piece → b ≡ get_or piece i 0 → Comes first old (take i piece) before middle
-    → ((bytes text : List ℕ) (j : Journal) → Reached old bytes text j → BytesEnd (Ok tt) new middle after (bytes ++ b ∷ []) text) → Comes first new (take (i + 1) piece) before after
+    → ((bytes text : List ℕ) (j : History) → Reached old bytes text j → BytesEnd (Ok tt) new middle after (bytes ++ b ∷ []) text) → Comes first new (take (i + 1) piece) before after
 comes_more first old new piece i b before middle after within is comes ends = λ bytes text j reached.
     let so_far = comes bytes text j reached in
     let one = ends (bytes ++ take i piece) (text ++ so_far.0) so_far.1 so_far.2 in
@@ -41,8 +41,8 @@ comes_more first old new piece i b before middle after within is comes ends = λ
 
 -- a byte at which it stops
 pub comes_stop : (status : Status) (first old new : Replay) (piece : List ℕ) (i b : ℕ) (before middle after : Option (List ℕ)) → i < length piece → b ≡ get_or piece i 0 → Comes first old (take i piece) before middle
-    → ((bytes text : List ℕ) (j : Journal) → Reached old bytes text j → BytesEnd (Err status) new middle after (bytes ++ b ∷ []) text)
-    → (bytes text : List ℕ) (j : Journal) → Reached first bytes text j → BytesEnd (Err status) new before after (bytes ++ piece) text
+    → ((bytes text : List ℕ) (j : History) → Reached old bytes text j → BytesEnd (Err status) new middle after (bytes ++ b ∷ []) text)
+    → (bytes text : List ℕ) (j : History) → Reached first bytes text j → BytesEnd (Err status) new before after (bytes ++ piece) text
 comes_stop status first old new piece i b before middle after within is comes ends = λ bytes text j reached.
     let so_far = comes bytes text j reached in
     let one = ends (bytes ++ take i piece) (text ++ so_far.0) so_far.1 so_far.2 in

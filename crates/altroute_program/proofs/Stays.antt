@@ -2,7 +2,7 @@
 use Rattle.std.proofs.Common.{◌≡◌, ℕ, ◌+◌, ◌≤◌, ◌<◌, zero, suc, Bool, true, false, ◌&&◌, cond, nat_eq, nat_lt, List, [], ◌∷◌, ◌++◌, length, take, Some, None, refl, ap, sym, ◌∙◌, arith, append_assoc, append-nil}
 use Rattle.std.specs.Prelude.{nat_le}
 use Rattle.std.proofs.lemmas.List.{length-append, length_push, take-append-le}
-use Rattle.route_events.specs.Journal.{Journal}
+use Rattle.both_ends.specs.Histories.{History}
 use Rattle.altroute_program.specs.Lines.{Cut, cut_on, cut_from, cut_lines, lines_of, is_empty_bytes}
 use Rattle.altroute_program.specs.Outcome.{Progress, Going, Stopped, Stop, AtLongLine, AtLongInput, act, act_all, start, limited, outcome, text_of, stop_of}
 use Rattle.altroute_program.proofs.Cutting.{act_all-append, cut_from-append, cut_more, lines_more}
@@ -33,7 +33,7 @@ long_empty : (xs : List ℕ) → 65536 < length xs → is_empty_bytes xs ≡ fal
 long_empty [] h = absurd (omega arith)
 long_empty (x ∷ xs) h = refl
 
-after_byte : (b n k : ℕ) (bs text : List ℕ) (c : Cut) (ended : Bool) (j : Journal) → act_all start c.whole ≡ Going text j k → 65536 < length c.rest
+after_byte : (b n k : ℕ) (bs text : List ℕ) (c : Cut) (ended : Bool) (j : History) → act_all start c.whole ≡ Going text j k → 65536 < length c.rest
     → ((d : Cut) → act_all start d.whole ≡ Going text j k → 65536 < length d.rest → limited (act_all start (lines_of (cut_from d bs) ended)) (cut_from d bs).rest n ≡ Stopped text AtLongLine)
     → (t : Bool) → nat_eq b 10 ≡ t → limited (act_all start (lines_of (cut_from (cut_on c b) bs) ended)) (cut_from (cut_on c b) bs).rest n ≡ Stopped text AtLongLine
 after_byte b n k bs text c ended j going long rec true is =
@@ -45,7 +45,7 @@ after_byte b n k bs text c ended j going long rec false is =
     rec (cut_on c b) same longer
 
 -- a line that is too long already
-after_long : (tail : List ℕ) (c : Cut) (ended : Bool) (text : List ℕ) (j : Journal) (k n : ℕ) → act_all start c.whole ≡ Going text j k → 65536 < length c.rest → limited (act_all start (lines_of (cut_from c tail) ended)) (cut_from c tail).rest n ≡ Stopped text AtLongLine
+after_long : (tail : List ℕ) (c : Cut) (ended : Bool) (text : List ℕ) (j : History) (k n : ℕ) → act_all start c.whole ≡ Going text j k → 65536 < length c.rest → limited (act_all start (lines_of (cut_from c tail) ended)) (cut_from c tail).rest n ≡ Stopped text AtLongLine
 after_long [] c false text j k n going long = rw (going, lt_true 65536 (length c.rest) long) refl
 after_long [] c true text j k n going long =
     let stop : act (Going text j k) c.rest ≡ Stopped text AtLongLine = rw (lt_true 65536 (length c.rest) long) refl in
@@ -103,7 +103,7 @@ grows bytes more ended = by_test (nat_lt 67108864 (length bytes)) refl
     by_test false is = within_grows bytes more ended (false_lt 67108864 (length bytes) is)
 
 -- a stop stays
-stop_tests : (bytes more text t : List ℕ) (ended : Bool) (why : Stop) (j : Journal) (k : ℕ) → length bytes ≤ 67108864 → act_all start (cut_lines bytes).whole ≡ Going text j k → (a b : Bool) → nat_lt 65536 (length (cut_lines bytes).rest) ≡ a → nat_lt 67108864 (length bytes) ≡ b → cond a (Stopped text AtLongLine) (cond b (Stopped text AtLongInput) (Going text j k)) ≡ Stopped t why → outcome (bytes ++ more) ended ≡ Stopped t why
+stop_tests : (bytes more text t : List ℕ) (ended : Bool) (why : Stop) (j : History) (k : ℕ) → length bytes ≤ 67108864 → act_all start (cut_lines bytes).whole ≡ Going text j k → (a b : Bool) → nat_lt 65536 (length (cut_lines bytes).rest) ≡ a → nat_lt 67108864 (length bytes) ≡ b → cond a (Stopped text AtLongLine) (cond b (Stopped text AtLongInput) (Going text j k)) ≡ Stopped t why → outcome (bytes ++ more) ended ≡ Stopped t why
 stop_tests bytes more text t ended why j k fits is true b a_is b_is s =
     let past = outcome_past bytes more ended fits in
     let long : 65536 < length (cut_lines bytes).rest = true_lt 65536 (length (cut_lines bytes).rest) a_is in

@@ -8,6 +8,13 @@ use Rattle.route_events.specs.declared.refusal.StepRefusal.TheVariants.{Spent, T
 use Rattle.event_lines.specs.declared.refusal.LineRefusal.{LineRefusal}
 use Rattle.event_lines.specs.declared.refusal.LineRefusal.TheVariants.{BadMoment, UnknownKind, BadField, ExtraField}
 use Rattle.event_lines.specs.ActionTexts.{action_text}
+use Rattle.advertiser_core.specs.declared.answer.Answer.{Answer}
+use Rattle.advertiser_core.specs.declared.answer.Answer.TheVariants.{Serve, Misdirected}
+use Rattle.both_ends.specs.declared.fault.EndRefusal.{EndRefusal}
+use Rattle.both_ends.specs.declared.fault.EndRefusal.TheVariants as refused
+use Rattle.both_ends.specs.declared.output.ServerOutput.{ServerOutput}
+use Rattle.both_ends.specs.declared.output.ServerOutput.TheVariants.{Nothing, Made, Answered}
+use Rattle.both_ends.specs.Refusals.{refusal_number}
 
 -- the lines of some actions
 abbrev pub actions_text : List Action → List ℕ
@@ -37,3 +44,25 @@ line_refusal_number ExtraField = 4
 
 abbrev pub line_refusal_text : At LineRefusal → List ℕ
 line_refusal_text at = codes " line " ++ decimal (line_refusal_number at.reason) ++ codes " at " ++ decimal at.place
+
+-- the refusals of both ends
+abbrev pub end_refusal_text : EndRefusal → List ℕ
+end_refusal_text (refused.Server reason) = codes " server " ++ decimal (refusal_number reason)
+end_refusal_text (refused.Step reason) = step_refusal_text reason
+
+-- the line of a message that was made, and of a request that the server answered
+abbrev pub message_line : ℕ → List ℕ
+message_line number = codes "message " ++ decimal number ++ codes "\n"
+
+abbrev pub answer_word : Answer → List ℕ
+answer_word Serve = codes "serve"
+answer_word Misdirected = codes "misdirect"
+
+abbrev pub answered_line : ℕ → Answer → List ℕ
+answered_line request answer = codes "answered " ++ decimal request ++ codes " " ++ answer_word answer ++ codes "\n"
+
+-- an answer stands in front of the client's actions, a message behind them
+abbrev pub output_text : ServerOutput → List Action → List ℕ
+output_text Nothing actions = actions_text actions
+output_text (Made number) actions = actions_text actions ++ message_line number
+output_text (Answered request answer) actions = answered_line request answer ++ actions_text actions

@@ -1,45 +1,44 @@
 ghost use Rattle.std.specs.Prelude.{◌≡◌, ◌≤◌, ℕ, List, length, IfOk};
-ghost use Rattle.route_events.specs.Journal.{Journal};
-ghost use Rattle.router_core.specs.Fitting.{IsFit};
-ghost use Rattle.router_core.specs.StandsFor.{StandsFor};
+ghost use Rattle.event_lines.specs.Valid.{IsServerAct};
 ghost use Rattle.event_lines.specs.LineReading.{line_reading};
-ghost use Rattle.altroute_program.specs.Outcome.{after_reading, after_event};
-ghost use Rattle.altroute_program.specs.Reached.{AnswersSo};
+ghost use Rattle.event_lines.specs.declared.event.Event.{Event as EventValue};
+ghost use Rattle.router_core.specs.Fitting.{IsFit};
+ghost use Rattle.both_ends.specs.Histories.{History, event_refusal};
+ghost use Rattle.both_ends.specs.StandsFor.{StandsFor};
+ghost use Rattle.altroute_program.specs.Outcome.{after_reading, after_event, after_taking};
+ghost use Rattle.altroute_program.specs.Reached.{AnswersSo, IsTakenSo};
 
-use crate::texts::{write_actions, write_line_refusal, write_refused, write_step_refusal};
+use crate::texts::{write_end_refusal, write_line_refusal, write_output, write_refused};
 use alt_base::{Moment, NoMemory, Refused};
-use event_lines::{Event, read_line};
+use both_ends::{BothEnds, EndFault, Output};
+use event_lines::{Event, ServerAct, read_line};
 use route_events::Fact;
-use router_core::{Router, StepFault};
 use std::alloc::Global;
 
-/// What a line gives: the router that goes on and the text of its actions, or the text of its refusal.
+/// What a line gives: both ends that go on and the text of what they do, or the text of its refusal.
 #[derive(Drop)]
 pub(crate) enum Answer {
-    Goes { router: Router, text: Vec<u8> },
+    Goes { ends: BothEnds, text: Vec<u8> },
     Refused { text: Vec<u8> },
 }
 
-// Steps the router.
-fn answer_fact(
+// The text of what both ends give for an event, or of its refusal.
+fn answer_taken(
     alloc: Global,
-    router: Router,
     number: u32,
-    now: Moment,
-    fact: Fact,
+    taken: Result<(BothEnds, Output), EndFault>,
 ) -> Result<Answer, NoMemory>
-    requires { IsFit fact }
-    ensures { IfOk result (λ a. (text : List ℕ) (j : Journal) → StandsFor router j →
-        AnswersSo a text number (after_event text j number now.0 (Event.Client fact))) }
+    ensures { IfOk result (λ a. (text : List ℕ) (h : History) (now : ℕ) (event : EventValue) → IsTakenSo taken h now event →
+        AnswersSo a text number (after_taking text h number now event (event_refusal h now event))) }
 {
-    match router.step(now, fact) {
-        Ok((router, actions)) => Ok(Answer::Goes {
-            router,
-            text: write_actions(alloc, actions.as_slice())?,
+    match taken {
+        Ok((ends, output)) => Ok(Answer::Goes {
+            ends,
+            text: write_output(alloc, &output)?,
         }),
-        Err(StepFault::NoMemory) => Err(NoMemory),
-        Err(StepFault::Refused { router: _, refusal }) => {
-            let why = write_step_refusal(alloc, refusal)?;
+        Err(EndFault::NoMemory) => Err(NoMemory),
+        Err(EndFault::Refused(refusal)) => {
+            let why = write_end_refusal(alloc, refusal)?;
             Ok(Answer::Refused {
                 text: write_refused(alloc, number, why.as_slice())?,
             })
@@ -47,23 +46,54 @@ fn answer_fact(
     }
 }
 
+// Takes a fact.
+fn answer_fact(
+    alloc: Global,
+    ends: BothEnds,
+    number: u32,
+    now: Moment,
+    fact: Fact,
+) -> Result<Answer, NoMemory>
+    requires { IsFit fact }
+    ensures { IfOk result (λ a. (text : List ℕ) (h : History) → StandsFor ends h →
+        AnswersSo a text number (after_event text h number now.0 (Event.Client fact))) }
+{
+    answer_taken(alloc, number, ends.take_fact(now, fact))
+}
+
+// Takes an act of the server.
+fn answer_act(
+    alloc: Global,
+    ends: BothEnds,
+    number: u32,
+    now: Moment,
+    act: ServerAct,
+) -> Result<Answer, NoMemory>
+    requires { IsServerAct act }
+    ensures { IfOk result (λ a. (text : List ℕ) (h : History) → StandsFor ends h →
+        AnswersSo a text number (after_event text h number now.0 (Event.Server act))) }
+{
+    answer_taken(alloc, number, ends.take_act(now, act))
+}
+
 /// Acts on a line.
 pub(crate) fn answer_line(
     alloc: Global,
-    router: Router,
+    ends: BothEnds,
     number: u32,
     line: &[u8],
 ) -> Result<Answer, NoMemory>
     requires { length line.now ≤ 65536 }
-    ensures { IfOk result (λ a. (text : List ℕ) (j : Journal) → StandsFor router j →
-        AnswersSo a text number (after_reading text j number (line_reading line.now))) }
+    ensures { IfOk result (λ a. (text : List ℕ) (h : History) → StandsFor ends h →
+        AnswersSo a text number (after_reading text h number (line_reading line.now))) }
 {
     match read_line(alloc, line) {
         Ok((_, Event::Skip)) => Ok(Answer::Goes {
-            router,
+            ends,
             text: Vec::new(alloc),
         }),
-        Ok((now, Event::Client(fact))) => answer_fact(alloc, router, number, now, fact),
+        Ok((now, Event::Client(fact))) => answer_fact(alloc, ends, number, now, fact),
+        Ok((now, Event::Server(act))) => answer_act(alloc, ends, number, now, act),
         Err(Refused::NoMemory) => Err(NoMemory),
         Err(Refused::At { place, reason }) => {
             let why = write_line_refusal(alloc, place, reason)?;

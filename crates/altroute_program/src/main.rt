@@ -53,6 +53,8 @@ mod alternative_tests;
 #[cfg(test)]
 mod answer_tests;
 #[cfg(test)]
+mod both_ends_tests;
+#[cfg(test)]
 mod frame_tests;
 #[cfg(test)]
 mod input_tests;

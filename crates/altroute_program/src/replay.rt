@@ -1,6 +1,6 @@
 ghost use Rattle.std.specs.Prelude.{◌≡◌, ◌≤◌, ◌<◌, ◌+◌, ◌++◌, [], ◌∷◌, length, ℕ, List, OnOk, IfNone};
-ghost use Rattle.route_events.specs.Journal.{Journal};
-ghost use Rattle.router_core.specs.StandsFor.{StandsFor};
+ghost use Rattle.both_ends.specs.Histories.{History};
+ghost use Rattle.both_ends.specs.StandsFor.{StandsFor};
 ghost use Rattle.event_lines.specs.LineReading.{line_reading};
 ghost use Rattle.altroute_program.specs.Outcome.{after_reading};
 ghost use Rattle.altroute_show.specs.Causes.{ResultCause, SinkCause};
@@ -10,7 +10,7 @@ use crate::Status;
 use crate::answers::{Answer, answer_line};
 use crate::state::Replay;
 use alt_base::{Sink, write_all};
-use router_core::Router;
+use both_ends::BothEnds;
 use std::alloc::Global;
 use std::mem;
 
@@ -21,20 +21,20 @@ const INPUT_LIMIT: u32 = 67_108_864;
 // Acts on a line and writes what it gives.
 fn act_on_line<K: Sink>(
     alloc: Global,
-    router: Router,
+    ends: BothEnds,
     number: u32,
     line: &[u8],
     sink: &mut K,
-) -> Result<Router, Status>
+) -> Result<BothEnds, Status>
     requires { length line.now ≤ 65536 }
-    ensures ends { (text : List ℕ) (j : Journal) → StandsFor router j →
+    ensures ends { (text : List ℕ) (j : History) → StandsFor ends j →
         LineEnds result (K.written sink.old) (K.written sink.new) text number (after_reading text j number (line_reading line.now)) }
     ensures cause { ResultCause result (K.faults sink.old) (K.faults sink.new) }
 {
-    match answer_line(alloc, router, number, line) {
+    match answer_line(alloc, ends, number, line) {
         Err(_) => Err(Status::NoMemory),
-        Ok(Answer::Goes { router, text }) => match write_all(sink, &text) {
-            Ok(()) => Ok(router),
+        Ok(Answer::Goes { ends, text }) => match write_all(sink, &text) {
+            Ok(()) => Ok(ends),
             Err(_) => Err(Status::WriteFault),
         },
         Ok(Answer::Refused { text }) => match write_all(sink, &text) {
@@ -48,17 +48,17 @@ fn act_on_line<K: Sink>(
 fn end_line<K: Sink>(alloc: Global, replay: &mut Replay, sink: &mut K) -> Result<(), Status>
     requires room { replay.old.taken < 67108864 }
     requires short { length replay.old.line ≤ 65536 }
-    ensures ends { (bytes text : List ℕ) (j : Journal) → Reached replay.old bytes text j →
+    ensures ends { (bytes text : List ℕ) (j : History) → Reached replay.old bytes text j →
         BytesEnd result replay.new (K.written sink.old) (K.written sink.new) (bytes ++ 10 ∷ []) text }
     ensures cause { ResultCause result (K.faults sink.old) (K.faults sink.new) }
     ensures counts { OnOk result (replay.new.taken ≡ replay.old.taken + 1) }
     ensures empty { OnOk result (replay.new.line ≡ []) }
 {
-    let router = mem::replace(&mut replay.router, Router::new(alloc));
+    let ends = mem::replace(&mut replay.ends, BothEnds::new(alloc));
     let number = replay.lines + 1;
-    match act_on_line(alloc, router, number, replay.line.as_slice(), sink) {
+    match act_on_line(alloc, ends, number, replay.line.as_slice(), sink) {
         Ok(next) => {
-            replay.router = next;
+            replay.ends = next;
             replay.line.clear();
             replay.taken += 1;
             replay.lines = number;
@@ -76,7 +76,7 @@ pub(crate) fn take_byte<K: Sink>(
     sink: &mut K,
 ) -> Result<(), Status>
     requires { length replay.old.line ≤ 65536 }
-    ensures ends { (bytes text : List ℕ) (j : Journal) → Reached replay.old bytes text j →
+    ensures ends { (bytes text : List ℕ) (j : History) → Reached replay.old bytes text j →
         BytesEnd result replay.new (K.written sink.old) (K.written sink.new) (bytes ++ byte ∷ []) text }
     ensures cause { ResultCause result (K.faults sink.old) (K.faults sink.new) }
     ensures counts { OnOk result (replay.new.taken ≡ replay.old.taken + 1) }
@@ -108,7 +108,7 @@ pub(crate) fn take_piece<K: Sink>(
     sink: &mut K,
 ) -> Result<(), Status>
     requires { length replay.old.line ≤ 65536 }
-    ensures ends { (bytes text : List ℕ) (j : Journal) → Reached replay.old bytes text j →
+    ensures ends { (bytes text : List ℕ) (j : History) → Reached replay.old bytes text j →
         BytesEnd result replay.new (K.written sink.old) (K.written sink.new) (bytes ++ piece.now) text }
     ensures cause { ResultCause result (K.faults sink.old) (K.faults sink.new) }
     ensures counts { OnOk result (replay.new.taken ≡ replay.old.taken + length piece.now) }
@@ -126,20 +126,20 @@ pub(crate) fn take_piece<K: Sink>(
 // Acts on the rest at the end of the input.
 pub(crate) fn finish<K: Sink>(alloc: Global, replay: &mut Replay, sink: &mut K) -> Status
     requires { length replay.old.line ≤ 65536 }
-    ensures ends { (bytes text : List ℕ) (j : Journal) → Reached replay.old bytes text j →
+    ensures ends { (bytes text : List ℕ) (j : History) → Reached replay.old bytes text j →
         FinishEnds result (K.written sink.old) (K.written sink.new) bytes text }
     ensures cause { SinkCause result (K.faults sink.old) (K.faults sink.new) }
 {
     if replay.line.len() == 0 {
         return Status::Done;
     }
-    let router = mem::replace(&mut replay.router, Router::new(alloc));
+    let ends = mem::replace(&mut replay.ends, BothEnds::new(alloc));
     let number = replay.lines + 1;
-    status_after(act_on_line(alloc, router, number, replay.line.as_slice(), sink))
+    status_after(act_on_line(alloc, ends, number, replay.line.as_slice(), sink))
 }
 
 // The status after the last line.
-fn status_after(acted: Result<Router, Status>) -> Status
+fn status_after(acted: Result<BothEnds, Status>) -> Status
     ensures { result ≡ status_after acted }
 {
     match acted {

@@ -7,7 +7,7 @@ use crate::Status;
 use crate::replay::{finish, take_piece};
 use crate::state::Replay;
 use alt_base::{ListOf, Sink, Source};
-use router_core::Router;
+use both_ends::BothEnds;
 use std::alloc::Global;
 
 const PIECE: usize = 4_096;
@@ -48,7 +48,7 @@ pub(crate) fn replay<S: Source, K: Sink>(alloc: Global, source: &mut S, sink: &m
         (record { left = S.left source.new; source_ended = S.ended source.new; read_faults = S.faults source.new; written = K.written sink.new; write_faults = K.faults sink.new }) }
 {
     let mut state = Replay {
-        router: Router::new(alloc),
+        ends: BothEnds::new(alloc),
         line: ListOf::new(alloc),
         lines: 0,
         taken: 0,
