@@ -54,7 +54,7 @@ class Placing:
 
     def __init__(self):
         self.waiting, self.origin, self.pending, self.sent = [], {}, {}, []
-        self.octets, self.told = {}, []
+        self.octets, self.told, self.made = {}, [], []
 
     def come(self, event):
         self.sent, self.told = [], []
@@ -67,6 +67,10 @@ class Placing:
             self.told = ["value"]
         elif event.kind == "input" and len(event.fields) == 2:
             self.told = self.frames(event.fields[0], bytes.fromhex(event.fields[1]))
+        elif event.kind in ("announce", "offer", "withdraw"):
+            self.made.append("origins" if event.kind == "announce" else "value")
+        elif event.kind == "deliver" and len(event.fields) == 2 and event.fields[0].isdigit():
+            self.told = self.made[int(event.fields[0]) - 1 :][:1] if event.fields[0] != "0" else []
 
     def frames(self, conn, octets):
         """Returns what the frames tell that some more octets of a connection end (RFC 9113 4.1)."""
@@ -85,8 +89,10 @@ class Placing:
             return words[1] in self.waiting and words[3] not in self.pending
         if words[0] == "refuse":
             return words[1] in self.waiting and self.origin[words[1]] not in self.pending.values()
-        if words[0] in ("retry", "field"):
-            return event.kind == "response" and event.fields[0] == words[1]
+        if words[0] in ("retry", "field", "answered"):
+            return event.kind == ("ask" if words[0] == "answered" else event.kind) and event.kind in ("response", "ask") and event.fields[0] == words[1]
+        if words[0] == "message":
+            return event.kind in ("announce", "offer", "withdraw")
         if words[0] == "lost":
             return event.kind in ("closed", "input")
         if words[0] in ("who", "stats"):
